@@ -1,0 +1,2 @@
+-- What the contracts of `exceptions` cite.
+pub mod Registers

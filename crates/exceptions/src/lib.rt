@@ -1,0 +1,135 @@
+// RITM's src/exceptions.rs: the guest registers that a trap saved, as one record by value.
+ghost use mathlib.Core.Path.{_≡_};
+ghost use Rattle.exceptions.specs.Registers.{freshCore, readGpr, readNumber, writeGpr, writeNumber};
+
+// How a call left the guest (SMCCC's conduit).
+pub enum Conduit {
+    Hvc,
+    Smc,
+}
+
+// Who is to answer a forwarded call.
+pub enum Recipient {
+    Firmware,
+    Platform,
+}
+
+// What a core waits for.
+pub enum Wait {
+    Nothing,
+    Call(Conduit, Recipient),
+}
+
+// The EL1 registers that an injected abort writes.
+pub struct FaultRegisters {
+    pub elr: u64,
+    pub spsr: u64,
+    pub far: u64,
+    pub esr: u64,
+}
+
+// A core's saved registers: x0 to x30, of which x29 is the frame pointer and x30 the link register (RITM's field `sp`), ELR and SPSR.
+pub struct Core {
+    pub x: [u64; 31],
+    pub elr: u64,
+    pub spsr: u64,
+    pub el1: FaultRegisters,
+    pub wait: Wait,
+}
+
+// What `read_gpr` answers.
+pub enum GprRead {
+    Value(u64),
+    NoSuchRegister,
+}
+
+// What `write_gpr` answers.
+pub enum GprWrite {
+    Accepted,
+    GuestRegisterWriteError,
+}
+
+pub struct GprWritten {
+    pub answer: GprWrite,
+    pub core: Core,
+}
+
+impl GprRead {
+    // The answer's number in the table of refusals.
+    pub fn number(self) -> u64
+        ensures { λ r. ⌜ r ≡ readNumber self ⌝ }
+    {
+        match self {
+            GprRead::Value(_) => 0,
+            GprRead::NoSuchRegister => 17,
+        }
+    }
+}
+
+impl GprWrite {
+    // The answer's number in the table of refusals.
+    pub fn number(self) -> u64
+        ensures { λ r. ⌜ r ≡ writeNumber self ⌝ }
+    {
+        match self {
+            GprWrite::Accepted => 0,
+            GprWrite::GuestRegisterWriteError => 17,
+        }
+    }
+}
+
+impl Core {
+    // The fresh core: all zero, waiting for nothing.
+    pub fn fresh() -> Self
+        ensures { λ r. ⌜ r ≡ freshCore ⌝ }
+    {
+        let el1 = FaultRegisters {
+            elr: 0,
+            spsr: 0,
+            far: 0,
+            esr: 0,
+        };
+        Core {
+            x: [0u64; 31],
+            elr: 0,
+            spsr: 0,
+            el1,
+            wait: Wait::Nothing,
+        }
+    }
+
+    // The value of guest register `index`.
+    pub fn read_gpr(self, index: usize) -> GprRead
+        ensures { λ r. ⌜ r ≡ readGpr self index ⌝ }
+    {
+        match index {
+            0..=30 => GprRead::Value(self.x[index]),
+            31 => GprRead::Value(0),
+            _ => GprRead::NoSuchRegister,
+        }
+    }
+
+    // The core with `value` in guest register `index`.
+    pub fn write_gpr(self, index: usize, value: u64) -> GprWritten
+        ensures { λ r. ⌜ r ≡ writeGpr self index value ⌝ }
+    {
+        match index {
+            0..=30 => {
+                let mut core = self;
+                core.x[index] = value;
+                GprWritten {
+                    answer: GprWrite::Accepted,
+                    core,
+                }
+            }
+            31 => GprWritten {
+                answer: GprWrite::Accepted,
+                core: self,
+            },
+            _ => GprWritten {
+                answer: GprWrite::GuestRegisterWriteError,
+                core: self,
+            },
+        }
+    }
+}

@@ -1,0 +1,78 @@
+-- Laws on replies. Assumes nothing.
+use Prim.Native.Nat.{ℕ, zero, suc, _+_, _-_, _^_, _≤_, _<_}
+use mathlib.Core.Path.{_≡_, refl, ap, sym, _∙_}
+use mathlib.Core.List.{List, [], _∷_, _++_}
+use native.Mathlib.Numerals.{add-one}
+use lib.ListN.{length, take, drop, set, getD}
+use lib.Seq.{length-take-le, drop-cons, take-suc, append-snoc, set-at}
+use Rattle.exceptions.specs.declared.Core.{Core}
+use Rattle.exceptions.specs.Registers.{withRegisters}
+use mathlib.Core.Bool.{true, false, true≢false}
+use native.Mathlib.Omega.{arith}
+use borrow.Author.Tests.{le-ltb, ltb-true}
+use lib.IntN.{ℤ, pos, negsuc, _-ℤ_}
+use lib.Signed.{mag, ltZ}
+use mir.Syntax.{w32}
+use mir.Val.{SFits, toZ, ofZ}
+use mir.ValLaws.{toZ-pos}
+use Rattle.hvc_response.specs.declared.HvcResultKind.the-variants.{UnknownKind}
+use Rattle.hvc_response.specs.Response.{signedWord, withFirst, resultOfKind}
+
+-- -1 less a negative number is one less than its amount
+less-one : (n : ℕ) → negsuc 0 -ℤ negsuc n ≡ pos n
+less-one n =
+    let e : suc n - 1 ≡ n = omega arith in
+    rw (le-ltb (suc n) 1 (omega arith)) (ap pos e)
+
+-- a negative 32-bit number, by the one's complement of its word
+pub record Negative (z : ℤ) : Type 0 where
+  pub fits : SFits w32 (negsuc 0 -ℤ z)
+  pub amount : toZ w32 (ofZ w32 (negsuc 0 -ℤ z)) ≡ pos (mag z)
+  pub word : 2 ^ 64 - 1 - mag z ≡ signedWord z
+
+pub negative : (z : ℤ) → SFits w32 z → ltZ z (pos 0) ≡ true → Negative z
+unfolding signedWord
+negative (pos n) f t = absurd (omega (arith, ltb-true n 0 t))
+negative (negsuc n) f t = record {
+  fits = rw (less-one n) (record { sfits = f .sfits });
+  amount = rw (less-one n) (toZ-pos w32 n (f .sfits));
+  word = omega arith;
+}
+
+-- a 32-bit number that is not negative is its own word
+pub natural : (z : ℤ) → SFits w32 z → ltZ z (pos 0) ≡ false → (z ≡ pos (signedWord z)) × (signedWord z < 2 ^ 64)
+unfolding signedWord
+natural (pos n) f t = (refl, omega arith)
+natural (negsuc n) f t = absurd (true≢false t)
+
+-- the first registers are written one by one
+next-register : (x values : List ℕ) (i : ℕ) → i < length x → i < length values → set (take i values ++ drop i x) i (getD values i 0) ≡ take (i + 1) values ++ drop (i + 1) x
+next-register x values i h k =
+    let n : length (take i values) ≡ i = length-take-le i values (omega arith) in
+    rw (add-one, drop-cons x i 0, take-suc values i 0, append-snoc) (set-at (take i values) (getD x i 0) (drop (suc i) x) (getD values i 0) i n)
+
+-- A loop writes the first registers of `core`: those before place `i` are written in `next`.
+pub record Written (core : Core) (values : List ℕ) (i : ℕ) (next : Core) : Type 0 where
+  pub within : i ≤ length values
+  pub so-far : next ≡ withFirst core (take i values)
+
+module _ (core next : Core) (values : List ℕ) (i : ℕ) (inv : Written core values i next) where
+  pub write-next : i < length (core .x) → i < length values → Written core values (i + 1) (withRegisters next (set (next .x) i (getD values i 0)))
+  unfolding withFirst withRegisters
+  write-next h k =
+      let n : length (take i values) ≡ i = length-take-le i values (omega arith) in
+      let m : length (take (i + 1) values) ≡ i + 1 = length-take-le (i + 1) values (omega arith) in
+      record {
+        within = omega arith;
+        so-far = rw (inv .so-far, n, m, next-register (core .x) values i h k);
+      }
+
+-- a kind that is none of 0 to 4
+pub unknown-kind : (kind value : ℕ) (error : ℤ) → (kind ≡ 0 → ⊥) → (kind ≡ 1 → ⊥) → (kind ≡ 2 → ⊥) → (kind ≡ 3 → ⊥) → (kind ≡ 4 → ⊥) → UnknownKind ≡ resultOfKind kind value error
+unfolding resultOfKind
+unknown-kind zero value error a b c d e = absurd (a refl)
+unknown-kind (suc zero) value error a b c d e = absurd (b refl)
+unknown-kind (suc (suc zero)) value error a b c d e = absurd (c refl)
+unknown-kind (suc (suc (suc zero))) value error a b c d e = absurd (d refl)
+unknown-kind (suc (suc (suc (suc zero)))) value error a b c d e = absurd (e refl)
+unknown-kind (suc (suc (suc (suc (suc n))))) value error a b c d e = refl

@@ -1,0 +1,2 @@
+-- What the contracts of `hvc_response` cite.
+pub mod Response

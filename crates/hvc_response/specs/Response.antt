@@ -1,0 +1,47 @@
+-- Replies to forwarded calls (document 01, "Reply"). Assumes nothing.
+use Prim.Native.Nat.{ℕ, zero, suc, _-_, _^_}
+use mathlib.Core.List.{List, [], _∷_, _++_}
+use lib.ListN.{length, take, drop}
+use lib.IntN.{ℤ, pos, negsuc}
+use Rattle.exceptions.specs.declared.Core.{Core}
+use Rattle.exceptions.specs.Registers.{withRegisters}
+use Rattle.hvc_response.specs.declared.HvcResult.{HvcResult}
+use Rattle.hvc_response.specs.declared.HvcResult.the-variants.{Unhandled, Value, Success, SuccessLarge, Error}
+use Rattle.hvc_response.specs.declared.HvcResultKind.{HvcResultKind}
+use Rattle.hvc_response.specs.declared.HvcResultKind.the-variants.{Result, UnknownKind}
+
+-- "sign-extended": the 64-bit two's complement word of a signed number; `negsuc n` is -(n + 1)
+unfoldable pub signedWord : ℤ → ℕ
+signedWord (pos n) = n
+signedWord (negsuc n) = 2 ^ 64 - suc n
+
+-- the values that a reply writes to x0 and the registers after it
+unfoldable pub response : HvcResult → List ℕ → List ℕ
+-- "kind 0 acts as error -1"
+response Unhandled values = signedWord (negsuc 0) ∷ []
+-- "Kind 1 writes the value to x0 and zero to x1, x2, x3"
+response (Value value) values = value ∷ 0 ∷ 0 ∷ 0 ∷ []
+-- "kind 2 writes x0 to x3"
+response Success values = take 4 values
+-- "kind 3 x0 to x17"
+response SuccessLarge values = take 18 values
+-- "kind 4 writes the error, sign-extended, to x0 only"
+response (Error error) values = signedWord error ∷ []
+
+-- the core with its first registers written, the others as they were
+unfoldable pub withFirst : Core → List ℕ → Core
+withFirst core values = withRegisters core (values ++ drop (length values) (core .x))
+
+-- "Kind 0 unhandled, 1 one value, 2 four values, 3 eighteen values, 4 an error"; 15 "kind above 4"
+unfoldable pub resultOfKind : ℕ → ℕ → ℤ → HvcResultKind
+resultOfKind zero value error = Result Unhandled
+resultOfKind (suc zero) value error = Result (Value value)
+resultOfKind (suc (suc zero)) value error = Result Success
+resultOfKind (suc (suc (suc zero))) value error = Result SuccessLarge
+resultOfKind (suc (suc (suc (suc zero)))) value error = Result (Error error)
+resultOfKind (suc (suc (suc (suc (suc n))))) value error = UnknownKind
+
+-- the number of an answer in document 01's table
+abbrev pub kindNumber : HvcResultKind → ℕ
+kindNumber (Result r) = 0
+kindNumber UnknownKind = 15

@@ -1,0 +1,59 @@
+use mathlib.Core.Path.{sym, _∙_}
+use borrow.Author.Tests.{not-true, not-false}
+use Rattle.memory_access.specs.Syndrome.{decodeAccess}
+use borrow.Author.Needs.{needs}
+use Rattle.memory_access.proofs.MemoryAccess.decode.Statement.{statement}
+use Rattle.memory_access.proofs.MemoryAccess.decode.Tie as tie
+
+decode-valid-instruction-syndrome-requires : tie.Need-decode-valid-instruction-syndrome-requires
+decode-valid-instruction-syndrome-requires c κs = search needs
+
+returns : tie.Need-returns
+unfolding decodeAccess
+returns c = rw (← c .before .decode-valid-instruction-syndrome .ensures, not-true (c .before .decode-valid-instruction-syndrome .result) (c .if1 .taken))
+
+decode-fault-ipa-requires : tie.Need-decode-fault-ipa-requires
+decode-fault-ipa-requires c κs = search needs
+
+decode-memory-access-width-requires : tie.Need-decode-memory-access-width-requires
+decode-memory-access-width-requires c κs = search needs
+
+decode-memory-access-kind-requires : tie.Need-decode-memory-access-kind-requires
+decode-memory-access-kind-requires c κs = search needs
+
+decode-memory-access-register-index-requires :
+    tie.Need-decode-memory-access-register-index-requires
+decode-memory-access-register-index-requires c κs = search needs
+
+decode-memory-access-sign-extend-requires : tie.Need-decode-memory-access-sign-extend-requires
+decode-memory-access-sign-extend-requires c κs = search needs
+
+decode-memory-access-register-width-64-requires :
+    tie.Need-decode-memory-access-register-width-64-requires
+decode-memory-access-register-width-64-requires c κs = search needs
+
+returns-2 : tie.Need-returns-2
+unfolding decodeAccess
+returns-2 c = simp (
+  sym (c .before .before .before .before .before .before .before .decode-valid-instruction-syndrome .ensures) ∙ not-false (c .before .before .before .before .before .before .before .decode-valid-instruction-syndrome .result) (c .before .before .before .before .before .before .if1 .left),
+  c .before .before .before .before .before .decode-fault-ipa .ensures,
+  c .before .before .before .before .decode-memory-access-width .ensures,
+  c .before .before .before .decode-memory-access-kind .ensures,
+  c .before .before .decode-memory-access-register-index .ensures,
+  c .before .decode-memory-access-sign-extend .ensures,
+  c .decode-memory-access-register-width-64 .ensures,
+)
+
+pub decode-spec : {M : Type 1} → statement M
+decode-spec =
+    tie.close
+    (tie.spec
+    decode-valid-instruction-syndrome-requires
+    returns
+    decode-fault-ipa-requires
+    decode-memory-access-width-requires
+    decode-memory-access-kind-requires
+    decode-memory-access-register-index-requires
+    decode-memory-access-sign-extend-requires
+    decode-memory-access-register-width-64-requires
+    returns-2)

@@ -1,0 +1,3 @@
+-- What the contracts of `memory_access` cite.
+pub mod Syndrome
+pub mod Transfer

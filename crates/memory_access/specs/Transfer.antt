@@ -1,0 +1,29 @@
+-- The value that an access moves between its register and memory (document 01, "Access"). Assumes nothing.
+use mathlib.Core.Bool.{Bool, true, false, cond}
+use Prim.Native.Nat.{ℕ, _+_, _-_, _%_, _^_}
+use Rattle.memory_access.specs.declared.MemoryAccess.{MemoryAccess}
+use Rattle.memory_access.specs.Syndrome.{bitAt, bitsOf}
+
+-- the low `w` bits of `v`
+unfoldable pub lowBits : ℕ → ℕ → ℕ
+lowBits w v = v % 2 ^ w
+
+-- "those bits are read as a two's complement number and extended to 64": the low `w` bits, less 2^w where bit w - 1 is set, modulo 2^64
+unfoldable pub signExtend : ℕ → ℕ → ℕ
+signExtend w v = cond (bitAt v (w - 1)) ((lowBits w v + (2 ^ 64 - 2 ^ w)) % 2 ^ 64) (lowBits w v)
+
+-- "A load result keeps the low access-width bits", extended with SSE set
+unfoldable pub loaded : ℕ → Bool → ℕ → ℕ
+loaded w sse v = cond sse (signExtend w v) (lowBits w v)
+
+-- "with SF clear only the low 32 bits stay"
+unfoldable pub atRegisterWidth : Bool → ℕ → ℕ
+atRegisterWidth sf v = cond sf v (lowBits 32 v)
+
+-- what a load puts into its register, of the value read
+unfoldable pub extendReadResult : MemoryAccess → ℕ → ℕ
+extendReadResult a v = atRegisterWidth (a .«register_width_64») (loaded (bitsOf (a .width)) (a .«sign_extend») v)
+
+-- "a store of Rt's low bits at the access width"
+unfoldable pub storeValue : MemoryAccess → ℕ → ℕ
+storeValue a v = lowBits (bitsOf (a .width)) v

@@ -1,0 +1,27 @@
+use borrow.Author.Tests.{eq-eqb, ne-eqb}
+use Rattle.qemu.specs.FilteredMmio.{writeFilteredMmio}
+use borrow.Author.Needs.{needs}
+use Rattle.qemu.proofs.write_filtered_mmio.Statement.{statement}
+use Rattle.qemu.proofs.write_filtered_mmio.Tie as tie
+
+bits-requires : tie.Need-bits-requires
+bits-requires c κs = search needs
+
+returns : tie.Need-returns
+unfolding writeFilteredMmio
+returns c = rw (← c .before .bits .ensures, ne-eqb _ _ (c .if1 .taken))
+
+returns-2 : tie.Need-returns-2
+unfolding writeFilteredMmio
+returns-2 c = rw (← c .before .before .before .bits .ensures, eq-eqb _ _ (c .before .before .if1 .left), ne-eqb _ _ (c .if2 .taken))
+
+returns-3 : tie.Need-returns-3
+unfolding writeFilteredMmio
+returns-3 c = rw (← c .before .before .before .before .before .bits .ensures, eq-eqb _ _ (c .before .before .before .before .if1 .left), eq-eqb _ _ (c .before .before .if2 .left), ne-eqb _ _ (c .if3 .taken))
+
+returns-4 : tie.Need-returns-4
+unfolding writeFilteredMmio
+returns-4 c = rw (← c .before .before .before .before .before .bits .ensures, eq-eqb _ _ (c .before .before .before .before .if1 .left), eq-eqb _ _ (c .before .before .if2 .left), eq-eqb _ _ (c .if3 .left))
+
+pub write-filtered-mmio-spec : {M : Type 1} → statement M
+write-filtered-mmio-spec = tie.close (tie.spec bits-requires returns returns-2 returns-3 returns-4)

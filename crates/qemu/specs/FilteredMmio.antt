@@ -1,0 +1,63 @@
+-- The filtered MMIO page (document 01, "Filtered page") and its counter. Assumes nothing.
+use Prim.Native.Nat.{ℕ, _+_, _%_, _^_}
+use mathlib.Core.Bool.{Bool, _&&_, cond}
+use mathlib.Core.List.{List, [], _∷_}
+use lib.Dec.{eqb}
+use Rattle.lists.specs.Lists.{firstOf, anyOf}
+use Rattle.memory_access.specs.Syndrome.{bitsOf}
+use Rattle.memory_access.specs.declared.MemoryAccessWidth.{MemoryAccessWidth}
+use Rattle.stage2_range.specs.declared.MemoryReadAccess.{MemoryReadAccess}
+use Rattle.stage2_range.specs.declared.MemoryReadResult.{MemoryReadResult}
+use Rattle.stage2_range.specs.declared.MemoryReadResult.the-variants as read
+use Rattle.stage2_range.specs.declared.MemoryWriteAccess.{MemoryWriteAccess}
+use Rattle.stage2_range.specs.declared.MemoryWriteResult.{MemoryWriteResult}
+use Rattle.stage2_range.specs.declared.MemoryWriteResult.the-variants as write
+use Rattle.qemu.specs.declared.FilteredRead.{FilteredRead}
+
+-- an entry of the page: a word at an offset
+pub record Entry : Type 0 where
+  pub offset : ℕ
+  pub word : ℕ
+
+abbrev pub at : ℕ → ℕ → Entry
+at offset word = record { offset = offset; word = word }
+
+-- what loads find, at this counter: "16 the counter before it grows"
+abbrev pub loads : ℕ → List Entry
+loads counter =
+    at 0 0xFEEDFACECAFEBEEF
+    ∷ at 16 counter
+    ∷ at 24 0x1111222233334444
+    ∷ at 32 0x5555666677778888
+    ∷ at 40 0x9999AAAABBBBCCCC
+    ∷ []
+
+-- what stores are taken: "A store succeeds only at 8 with 0x123456789ABCDEF0"
+abbrev pub stores : List Entry
+stores = at 8 0x123456789ABCDEF0 ∷ []
+
+-- "Only 64-bit accesses succeed"
+abbrev pub is64 : MemoryAccessWidth → Bool
+is64 width = eqb (bitsOf width) 64
+
+-- the word at an offset; "All else faults"
+unfoldable pub wordAt : ℕ → ℕ → MemoryReadResult
+wordAt offset counter = firstOf (λ e. eqb offset (e .offset)) (λ e. read.Value (e .word)) read.Fault (loads counter)
+
+-- the counter after a 64-bit load: a load of the counter word makes it grow "by 1 modulo 2^64"
+unfoldable pub counterAfter : ℕ → ℕ → ℕ
+counterAfter offset counter = cond (eqb offset 16) ((counter + 1) % 2 ^ 64) counter
+
+-- a load: the word and the counter; a fault "leaves the counter"
+unfoldable pub readFilteredMmio : MemoryReadAccess → ℕ → FilteredRead
+readFilteredMmio access counter =
+    cond (is64 (access .width))
+    (record { result = wordAt (access .offset) counter; counter = counterAfter (access .offset) counter })
+    (record { result = read.Fault; counter = counter })
+
+-- a store
+unfoldable pub writeFilteredMmio : MemoryWriteAccess → MemoryWriteResult
+writeFilteredMmio access =
+    cond (is64 (access .width) && anyOf (λ e. eqb (access .offset) (e .offset) && eqb (access .value) (e .word)) stores)
+    write.Handled
+    write.Fault

@@ -1,0 +1,2 @@
+-- What the contracts of `qemu` cite.
+pub mod FilteredMmio

@@ -1,0 +1,37 @@
+-- Laws on the suspend map. Assumes nothing.
+use Prim.Native.Nat.{ℕ}
+use mathlib.Core.Path.{_≡_, refl, sym, _∙_, ap}
+use mathlib.Core.Bool.{_||_, cond}
+use mathlib.Core.List.{List}
+use lib.Dec.{ltb}
+use lib.ListN.{length, getD, set}
+use Rattle.lists.specs.Lists.{anyOf, firstIndex}
+use Rattle.lists.proofs.Laws.{first-at, any-at, replace-at, replace-any, length-replace}
+use Rattle.simple_map.specs.declared.Place.{Place}
+use Rattle.simple_map.specs.declared.SimpleMap.{SimpleMap}
+use Rattle.simple_map.specs.declared.Lookup.the-variants.{Nothing}
+use Rattle.simple_map.specs.declared.Insertion.the-variants.{Accepted, CapacityExceeded}
+use Rattle.simple_map.specs.declared.SuspendCoreData.{SuspendCoreData}
+use Rattle.simple_map.specs.Map.{fits, isFree, taken, holdsKey, freePlace, without, hasRoom, valueOf, getItem, insertItem, insertNumber}
+
+-- the first item with the key, by its place
+pub get-at : (map : SimpleMap) (key : ℕ) → getItem map key ≡ cond (ltb (firstIndex (holdsKey key) (map .items)) (length (map .items))) (valueOf (getD (map .items) (firstIndex (holdsKey key) (map .items)) freePlace)) Nothing
+unfolding getItem
+get-at map key = first-at (holdsKey key) valueOf Nothing (map .items) freePlace
+
+pub without-at : (key : ℕ) (items : List Place) → without key items ≡ set items (firstIndex (holdsKey key) items) freePlace
+unfolding without
+without-at key items = replace-at (holdsKey key) freePlace items
+
+-- there is room where a place is free once the first item with the key is removed
+pub room-at : (map : SimpleMap) (key : ℕ) → hasRoom map key ≡ ltb (firstIndex isFree (without key (map .items))) (length (map .items))
+unfolding hasRoom without fits
+room-at map key =
+    sym (replace-any (holdsKey key) isFree freePlace refl (map .items))
+    ∙ any-at isFree (without key (map .items))
+    ∙ ap (ltb (firstIndex isFree (without key (map .items)))) (length-replace (holdsKey key) freePlace (map .items))
+
+-- to insert is to store at the first place that is free then
+pub insert-at : (map : SimpleMap) (key : ℕ) (value : SuspendCoreData) → insertItem map key value ≡ cond (ltb (firstIndex isFree (without key (map .items))) (length (map .items))) (record { answer = Accepted; map = record { items = set (without key (map .items)) (firstIndex isFree (without key (map .items))) (taken key value) } }) (record { answer = CapacityExceeded; map = map })
+unfolding insertItem
+insert-at map key value = rw (room-at map key, replace-at isFree (taken key value) (without key (map .items)))

@@ -1,0 +1,2 @@
+-- What the contracts of `simple_map` cite.
+pub mod Map

@@ -1,0 +1,33 @@
+use Prim.Native.Nat.{_+_, _^_}
+use borrow.Author.Tests.{eq-eqb, ne-eqb, le-leb, lt-leb}
+use native.Mathlib.Omega.{arith}
+use Rattle.stage2_range.specs.Ranges.{validateRange}
+use borrow.Author.Needs.{needs}
+use Rattle.stage2_range.proofs.validate_range.Statement.{statement}
+use Rattle.stage2_range.proofs.validate_range.Tie as tie
+
+returns : tie.Need-returns
+unfolding validateRange
+returns c = simp (ne-eqb _ _ (c .if1 .taken))
+
+returns-2 : tie.Need-returns-2
+unfolding validateRange
+returns-2 c = simp (eq-eqb _ _ (c .before .if1 .left), eq-eqb _ _ (c .if2 .taken))
+
+returns-3 : tie.Need-returns-3
+unfolding validateRange
+returns-3 c = simp (eq-eqb _ _ (c .before .before .if1 .left), ne-eqb _ _ (c .before .if2 .left), ne-eqb _ _ (c .if3 .taken))
+
+sub-if4 : tie.Need-sub-if4
+sub-if4 c = search needs
+
+returns-4 : tie.Need-returns-4
+unfolding validateRange
+returns-4 c = let a = c .before .before .before .before .args in simp (eq-eqb _ _ (c .before .before .before .if1 .left), ne-eqb _ _ (c .before .before .if2 .left), eq-eqb _ _ (c .before .if3 .left), le-leb (2 ^ 64) (a .base-ipa + a .size) (omega arith))
+
+returns-5 : tie.Need-returns-5
+unfolding validateRange
+returns-5 c = let a = c .before .before .before .before .args in simp (eq-eqb _ _ (c .before .before .before .if1 .left), ne-eqb _ _ (c .before .before .if2 .left), eq-eqb _ _ (c .before .if3 .left), lt-leb (2 ^ 64) (a .base-ipa + a .size) (omega arith))
+
+pub validate-range-spec : {M : Type 1} → statement M
+validate-range-spec = tie.close (tie.spec returns returns-2 returns-3 sub-if4 returns-4 returns-5)

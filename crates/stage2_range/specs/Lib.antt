@@ -1,0 +1,3 @@
+-- What the contracts of `stage2_range` cite.
+pub mod Ranges
+pub mod Registry

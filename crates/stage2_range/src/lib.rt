@@ -1,0 +1,354 @@
+// RITM's src/stage2.rs below its builder: the records, the range checks, the searches over an array and a count, the registry's insertion.
+ghost use mathlib.Core.Path.{_≡_};
+ghost use Prim.Native.Nat.{_≤_, _<_};
+ghost use Rattle.lists.specs.Lists.{held, firstIndex, insertAt};
+ghost use Rattle.stage2_range.specs.Ranges.{validateRange, errorNumber, resultNumber, sharesByte, overlapsAllowed, alignDown, alignUp, alignedNumber};
+ghost use Rattle.stage2_range.specs.Registry.{fits, overlapsRegions, findRegion, registerRegion};
+use memory_access::Ipa;
+use memory_access::MemoryAccessWidth;
+
+// The most memory access handler regions that a policy holds.
+pub const MAX_MEMORY_ACCESS_HANDLERS: u64 = 16;
+
+// The most allowed ranges that a policy holds.
+pub const MAX_ALLOWED_RANGES: u64 = 32;
+
+// Why a range is refused.
+pub enum Stage2ConfigError {
+    RangeBaseNotPageAligned,
+    EmptyRange,
+    RangeSizeNotPageMultiple,
+    RangeEndOverflow,
+    TooManyAllowedRanges,
+    AllowedRangeOverlap,
+    AllowedRangeOverlapsMemoryAccessHandler,
+    TooManyMemoryAccessHandlerRegions,
+    MemoryAccessHandlerRangeOverlap,
+}
+
+// RITM's `Result<(), Stage2ConfigError>`.
+pub enum Stage2Result {
+    Accepted,
+    Refused(Stage2ConfigError),
+}
+
+// Who serves the loads or the stores of a region, where RITM has an optional function: nobody, or the filtered MMIO page.
+pub enum MemoryHandler {
+    Absent,
+    FilteredMmio,
+}
+
+pub struct MemoryAccessHandler {
+    pub read: MemoryHandler,
+    pub write: MemoryHandler,
+}
+
+// A guest load from a handled region.
+pub struct MemoryReadAccess {
+    pub ipa: Ipa,
+    pub offset: u64,
+    pub width: MemoryAccessWidth,
+}
+
+// A guest store to a handled region, its value at the access width.
+pub struct MemoryWriteAccess {
+    pub ipa: Ipa,
+    pub offset: u64,
+    pub width: MemoryAccessWidth,
+    pub value: u64,
+}
+
+pub enum MemoryReadResult {
+    Value(u64),
+    Fault,
+}
+
+pub enum MemoryWriteResult {
+    Handled,
+    Fault,
+}
+
+// A range that the guest may use directly. (RITM's record has no attributes: they go to the page table alone.)
+pub struct Stage2Range {
+    pub base_ipa: u64,
+    pub size: u64,
+    pub end_ipa: u64,
+    pub attributes: u64,
+}
+
+// A range whose accesses are handled.
+pub struct MemoryAccessRegion {
+    pub base_ipa: u64,
+    pub size: u64,
+    pub handler: MemoryAccessHandler,
+    pub end_ipa: u64,
+}
+
+pub struct MemoryAccessHandlerMatch {
+    pub region: MemoryAccessRegion,
+    pub offset: u64,
+}
+
+// What `find_region` answers.
+pub enum RegionFound {
+    Nothing,
+    Match(MemoryAccessHandlerMatch),
+}
+
+// What `register` answers, and the registry then.
+pub struct Registered {
+    pub answer: Stage2Result,
+    pub regions: [MemoryAccessRegion; 16],
+    pub region_count: u64,
+}
+
+// What `align_up_to_page` answers.
+pub enum AlignedUp {
+    Address(u64),
+    NoPageAbove,
+}
+
+impl Stage2ConfigError {
+    // The refusal's number.
+    pub fn number(self) -> u64
+        ensures { λ r. ⌜ r ≡ errorNumber self ⌝ }
+    {
+        match self {
+            Stage2ConfigError::RangeBaseNotPageAligned => 1,
+            Stage2ConfigError::EmptyRange => 2,
+            Stage2ConfigError::RangeSizeNotPageMultiple => 3,
+            Stage2ConfigError::RangeEndOverflow => 4,
+            Stage2ConfigError::TooManyAllowedRanges => 5,
+            Stage2ConfigError::AllowedRangeOverlap => 6,
+            Stage2ConfigError::AllowedRangeOverlapsMemoryAccessHandler => 7,
+            Stage2ConfigError::TooManyMemoryAccessHandlerRegions => 8,
+            Stage2ConfigError::MemoryAccessHandlerRangeOverlap => 9,
+        }
+    }
+}
+
+impl Stage2Result {
+    // The answer's number in the table of refusals.
+    pub fn number(self) -> u64
+        ensures { λ r. ⌜ r ≡ resultNumber self ⌝ }
+    {
+        match self {
+            Stage2Result::Accepted => 0,
+            Stage2Result::Refused(e) => e.number(),
+        }
+    }
+}
+
+impl AlignedUp {
+    // The answer's number in the table of refusals.
+    pub fn number(self) -> u64
+        ensures { λ r. ⌜ r ≡ alignedNumber self ⌝ }
+    {
+        match self {
+            AlignedUp::Address(_) => 0,
+            AlignedUp::NoPageAbove => 18,
+        }
+    }
+}
+
+const STAGE2_PAGE_SIZE: u64 = 4096;
+
+// Rounds `address` down to the nearest page boundary.
+pub fn align_down_to_page(address: u64) -> u64
+    ensures { λ r. ⌜ r ≡ alignDown address ⌝ }
+{
+    address / STAGE2_PAGE_SIZE * STAGE2_PAGE_SIZE
+}
+
+// Rounds `address` up to the nearest page boundary.
+pub fn align_up_to_page(address: u64) -> AlignedUp
+    ensures { λ r. ⌜ r ≡ alignUp address ⌝ }
+{
+    if 0xFFFF_FFFF_FFFF_F000 < address {
+        AlignedUp::NoPageAbove
+    } else {
+        AlignedUp::Address(align_down_to_page(address + (STAGE2_PAGE_SIZE - 1)))
+    }
+}
+
+// Refusals 1 to 4, in order.
+pub fn validate_range(base_ipa: u64, size: u64) -> Stage2Result
+    ensures { λ r. ⌜ r ≡ validateRange «base_ipa» size ⌝ }
+{
+    if base_ipa % STAGE2_PAGE_SIZE != 0 {
+        return Stage2Result::Refused(Stage2ConfigError::RangeBaseNotPageAligned);
+    }
+    if size == 0 {
+        return Stage2Result::Refused(Stage2ConfigError::EmptyRange);
+    }
+    if size % STAGE2_PAGE_SIZE != 0 {
+        return Stage2Result::Refused(Stage2ConfigError::RangeSizeNotPageMultiple);
+    }
+    if 0xFFFF_FFFF_FFFF_FFFF - base_ipa < size {
+        return Stage2Result::Refused(Stage2ConfigError::RangeEndOverflow);
+    }
+    Stage2Result::Accepted
+}
+
+// Some byte lies in both ranges, each from its base up to but not including its end.
+pub fn page_ranges_overlap(
+    first_base_ipa: u64,
+    first_end_ipa: u64,
+    second_base_ipa: u64,
+    second_end_ipa: u64,
+) -> bool
+    ensures { λ r. ⌜ r ≡ sharesByte «first_base_ipa» «first_end_ipa» «second_base_ipa» «second_end_ipa» ⌝ }
+{
+    if first_end_ipa <= first_base_ipa {
+        return false;
+    }
+    if second_end_ipa <= second_base_ipa {
+        return false;
+    }
+    if second_end_ipa <= first_base_ipa {
+        return false;
+    }
+    second_base_ipa < first_end_ipa
+}
+
+// Some allowed range that is held shares a byte with the given range.
+pub fn overlaps_allowed(
+    ranges: [Stage2Range; 32],
+    allowed_count: u64,
+    base_ipa: u64,
+    end_ipa: u64,
+) -> bool
+    ensures { λ r. ⌜ r ≡ overlapsAllowed (held 32 «allowed_count» ranges) «base_ipa» «end_ipa» ⌝ }
+{
+    let n = lists::held_count(allowed_count, MAX_ALLOWED_RANGES);
+    let mut i: u64 = 0;
+    while i < n {
+        let r = ranges[i as usize];
+        if page_ranges_overlap(r.base_ipa, r.end_ipa, base_ipa, end_ipa) {
+            return true;
+        }
+        i += 1;
+    }
+    false
+}
+
+// What a search of the regions looks for.
+enum Sought {
+    // A byte in common with a range from its base up to but not including its end.
+    Overlap(u64, u64),
+    // An address in the region.
+    Address(u64),
+    // A base at or above this one.
+    BaseNotBelow(u64),
+}
+
+fn region_fits(region: MemoryAccessRegion, sought: Sought) -> bool
+    ensures { λ r. ⌜ r ≡ fits sought region ⌝ }
+{
+    match sought {
+        Sought::Overlap(base_ipa, end_ipa) => {
+            page_ranges_overlap(region.base_ipa, region.end_ipa, base_ipa, end_ipa)
+        }
+        Sought::Address(ipa) => region.base_ipa <= ipa && ipa < region.end_ipa,
+        Sought::BaseNotBelow(base_ipa) => base_ipa <= region.base_ipa,
+    }
+}
+
+// The place of the first region held that fits, and how many are held where none does.
+fn position(regions: [MemoryAccessRegion; 16], region_count: u64, sought: Sought) -> u64
+    ensures { λ r. ⌜ r ≡ firstIndex (fits sought) (held 16 «region_count» regions) ⌝ }
+{
+    let n = lists::held_count(region_count, MAX_MEMORY_ACCESS_HANDLERS);
+    let mut i: u64 = 0;
+    while i < n {
+        let region = regions[i as usize];
+        if region_fits(region, sought) {
+            return i;
+        }
+        i += 1;
+    }
+    i
+}
+
+// Some region that is held shares a byte with the given range.
+pub fn overlaps_regions(
+    regions: [MemoryAccessRegion; 16],
+    region_count: u64,
+    base_ipa: u64,
+    end_ipa: u64,
+) -> bool
+    ensures { λ r. ⌜ r ≡ overlapsRegions (held 16 «region_count» regions) «base_ipa» «end_ipa» ⌝ }
+{
+    let at = position(regions, region_count, Sought::Overlap(base_ipa, end_ipa));
+    at < lists::held_count(region_count, MAX_MEMORY_ACCESS_HANDLERS)
+}
+
+// The first region held that has the address, and the offset in it.
+pub fn find_region(regions: [MemoryAccessRegion; 16], region_count: u64, ipa: Ipa) -> RegionFound
+    ensures { λ r. ⌜ r ≡ findRegion (held 16 «region_count» regions) ipa ⌝ }
+{
+    let address = ipa.0;
+    let at = position(regions, region_count, Sought::Address(address));
+    if at < lists::held_count(region_count, MAX_MEMORY_ACCESS_HANDLERS) {
+        let region = regions[at as usize];
+        RegionFound::Match(MemoryAccessHandlerMatch {
+            region,
+            offset: address - region.base_ipa,
+        })
+    } else {
+        RegionFound::Nothing
+    }
+}
+
+// Refusals 8 and 9, in order; an accepted region goes before the first whose base is not below its own.
+pub fn register(
+    regions: [MemoryAccessRegion; 16],
+    region_count: u64,
+    region: MemoryAccessRegion,
+) -> Registered
+    ensures { λ r. ⌜ r ≡ registerRegion regions «region_count» region ⌝ }
+{
+    if MAX_MEMORY_ACCESS_HANDLERS <= region_count {
+        return Registered {
+            answer: Stage2Result::Refused(Stage2ConfigError::TooManyMemoryAccessHandlerRegions),
+            regions,
+            region_count,
+        };
+    }
+    if overlaps_regions(regions, region_count, region.base_ipa, region.end_ipa) {
+        return Registered {
+            answer: Stage2Result::Refused(Stage2ConfigError::MemoryAccessHandlerRangeOverlap),
+            regions,
+            region_count,
+        };
+    }
+    let at = position(regions, region_count, Sought::BaseNotBelow(region.base_ipa));
+    Registered {
+        answer: Stage2Result::Accepted,
+        regions: place_at(regions, region_count, at, region),
+        region_count: region_count + 1,
+    }
+}
+
+// The region at a place among the first `n`, those from there on one place further.
+fn place_at(
+    regions: [MemoryAccessRegion; 16],
+    n: u64,
+    at: u64,
+    region: MemoryAccessRegion,
+) -> [MemoryAccessRegion; 16]
+    requires { ⌜ (at ≤ n) × (n < 16) ⌝ }
+    ensures { λ r. ⌜ r ≡ insertAt regions n at region ⌝ }
+{
+    let mut out = regions;
+    let mut carried = region;
+    let mut i = at;
+    while i < n {
+        let moved = out[i as usize];
+        out[i as usize] = carried;
+        carried = moved;
+        i += 1;
+    }
+    out[n as usize] = carried;
+    out
+}
