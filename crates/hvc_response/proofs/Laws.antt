@@ -7,16 +7,17 @@ use lib.ListN.{length, take, drop, set, getD}
 use lib.Seq.{length-take-le, drop-cons, take-suc, append-snoc, set-at}
 use Rattle.exceptions.specs.declared.Core.{Core}
 use Rattle.exceptions.specs.Registers.{withRegisters}
-use mathlib.Core.Bool.{true, false, true≢false}
+use mathlib.Core.Bool.{true, false, cond, true≢false}
 use native.Mathlib.Omega.{arith}
-use borrow.Author.Tests.{le-ltb, ltb-true}
+use borrow.Author.Tests.{lt-ltb, le-ltb, ltb-true}
+use lib.Dec.{ltb}
 use lib.IntN.{ℤ, pos, negsuc, _-ℤ_}
 use lib.Signed.{mag, ltZ}
 use mir.Syntax.{w32}
 use mir.Val.{SFits, toZ, ofZ}
 use mir.ValLaws.{toZ-pos}
 use Rattle.hvc_response.specs.declared.HvcResultKind.the-variants.{UnknownKind}
-use Rattle.hvc_response.specs.Response.{signedWord, withFirst, resultOfKind}
+use Rattle.hvc_response.specs.Response.{signedWord, withFirst, resultOfKind, kindNumber}
 
 -- -1 less a negative number is one less than its amount
 less-one : (n : ℕ) → negsuc 0 -ℤ negsuc n ≡ pos n
@@ -76,3 +77,13 @@ unknown-kind (suc (suc zero)) value error a b c d e = absurd (c refl)
 unknown-kind (suc (suc (suc zero))) value error a b c d e = absurd (d refl)
 unknown-kind (suc (suc (suc (suc zero)))) value error a b c d e = absurd (e refl)
 unknown-kind (suc (suc (suc (suc (suc n))))) value error a b c d e = refl
+
+-- 15 exactly where the kind is above 4
+pub kind-number : (kind value : ℕ) (error : ℤ) → kindNumber (resultOfKind kind value error) ≡ cond (ltb 4 kind) 15 0
+unfolding resultOfKind
+kind-number zero value error = refl
+kind-number (suc zero) value error = refl
+kind-number (suc (suc zero)) value error = refl
+kind-number (suc (suc (suc zero))) value error = refl
+kind-number (suc (suc (suc (suc zero)))) value error = refl
+kind-number (suc (suc (suc (suc (suc n))))) value error = rw (lt-ltb 4 (suc (suc (suc (suc (suc n))))) (omega arith))

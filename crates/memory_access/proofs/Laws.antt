@@ -127,7 +127,7 @@ size-doubles (suc (suc (suc zero))) h = refl
 size-doubles (suc (suc (suc (suc n)))) h = absurd (omega arith)
 
 -- a function of a choice is the choice of its values
-cond-map : {A B : Type 0} (f : A → B) (b : Bool) (x y : A) → f (cond b x y) ≡ cond b (f x) (f y)
+pub cond-map : {A B : Type 0} (f : A → B) (b : Bool) (x y : A) → f (cond b x y) ≡ cond b (f x) (f y)
 cond-map f true x y = refl
 cond-map f false x y = refl
 

@@ -40,22 +40,27 @@ stores = at 8 0x123456789ABCDEF0 ∷ []
 abbrev pub is64 : MemoryAccessWidth → Bool
 is64 width = eqb (bitsOf width) 64
 
--- the word at an offset; "All else faults"
+-- the word at an offset, or a fault
 unfoldable pub wordAt : ℕ → ℕ → MemoryReadResult
 wordAt offset counter = firstOf (λ e. eqb offset (e .offset)) (λ e. read.Value (e .word)) read.Fault (loads counter)
 
--- the counter after a 64-bit load: a load of the counter word makes it grow "by 1 modulo 2^64"
-unfoldable pub counterAfter : ℕ → ℕ → ℕ
-counterAfter offset counter = cond (eqb offset 16) ((counter + 1) % 2 ^ 64) counter
+-- the load is of the counter word
+unfoldable pub loadsCounter : MemoryReadAccess → Bool
+loadsCounter access = is64 (access .width) && eqb (access .offset) 16
 
--- a load: the word and the counter; a fault "leaves the counter"
+-- a load of the counter word makes it grow "by 1 modulo 2^64"
+unfoldable pub counterAfter : Bool → ℕ → ℕ
+counterAfter loaded counter = cond loaded ((counter + 1) % 2 ^ 64) counter
+
+-- a load: the word, and the counter then; "All else faults and leaves the counter"
 unfoldable pub readFilteredMmio : MemoryReadAccess → ℕ → FilteredRead
 readFilteredMmio access counter =
-    cond (is64 (access .width))
-    (record { result = wordAt (access .offset) counter; counter = counterAfter (access .offset) counter })
-    (record { result = read.Fault; counter = counter })
+    record {
+      result = cond (is64 (access .width)) (wordAt (access .offset) counter) read.Fault;
+      counter = counterAfter (loadsCounter access) counter;
+    }
 
--- a store
+-- a store: handled, or else a fault
 unfoldable pub writeFilteredMmio : MemoryWriteAccess → MemoryWriteResult
 writeFilteredMmio access =
     cond (is64 (access .width) && anyOf (λ e. eqb (access .offset) (e .offset) && eqb (access .value) (e .word)) stores)

@@ -1,5 +1,6 @@
 // RITM's src/platform/qemu.rs, of which the filtered MMIO page is carried over.
 ghost use mathlib.Core.Path.{_≡_};
+ghost use lib.Dec.{eqb};
 ghost use Rattle.qemu.specs.FilteredMmio.{wordAt, counterAfter, readFilteredMmio, writeFilteredMmio};
 use memory_access::MemoryAccessWidth;
 use stage2_range::MemoryReadAccess;
@@ -44,7 +45,7 @@ fn word_at(offset: u64, counter: u64) -> MemoryReadResult
 }
 
 fn counter_after(offset: u64, counter: u64) -> u64
-    ensures { λ r. ⌜ r ≡ counterAfter offset counter ⌝ }
+    ensures { λ r. ⌜ r ≡ counterAfter (eqb offset 16) counter ⌝ }
 {
     if offset == 16 {
         std::num::wrapping_add_u64(counter, 1)

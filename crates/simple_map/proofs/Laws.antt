@@ -1,7 +1,7 @@
 -- Laws on the suspend map. Assumes nothing.
 use Prim.Native.Nat.{ℕ}
 use mathlib.Core.Path.{_≡_, refl, sym, _∙_, ap}
-use mathlib.Core.Bool.{_||_, cond}
+use mathlib.Core.Bool.{true, false, _||_, cond}
 use mathlib.Core.List.{List}
 use lib.Dec.{ltb}
 use lib.ListN.{length, getD, set}
@@ -35,3 +35,13 @@ room-at map key =
 pub insert-at : (map : SimpleMap) (key : ℕ) (value : SuspendCoreData) → insertItem map key value ≡ cond (ltb (firstIndex isFree (without key (map .items))) (length (map .items))) (record { answer = Accepted; map = record { items = set (without key (map .items)) (firstIndex isFree (without key (map .items))) (taken key value) } }) (record { answer = CapacityExceeded; map = map })
 unfolding insertItem
 insert-at map key value = rw (room-at map key, replace-at isFree (taken key value) (without key (map .items)))
+
+-- 16 exactly where the key is not held and all places are taken; the map is then as it was
+module _ (map : SimpleMap) (key : ℕ) (value : SuspendCoreData) where
+  pub no-room-refused : hasRoom map key ≡ false → (insertNumber (insertItem map key value .answer) ≡ 16) × (insertItem map key value .map ≡ map)
+  unfolding insertItem
+  no-room-refused e = (rw e, rw e)
+
+  pub room-accepted : hasRoom map key ≡ true → insertNumber (insertItem map key value .answer) ≡ 0
+  unfolding insertItem
+  room-accepted e = rw e

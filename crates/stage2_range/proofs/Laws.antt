@@ -5,13 +5,14 @@ use mathlib.Core.Bool.{Bool, true, false, not, _&&_, cond, true≢false}
 use mathlib.Core.List.{List, [], _∷_, _++_, List·Memᴰ}
 use native.Mathlib.Omega.{arith}
 use native.Mathlib.Numerals.{add-one}
-use borrow.Author.Tests.{lt-ltb, le-ltb, lt-leb, eq-eqb, ne-eqb, ltb-true, ltb-false, leb-true, leb-false, eqb-true, eqb-false, not-false}
+use borrow.Author.Tests.{lt-ltb, le-ltb, le-leb, lt-leb, eq-eqb, ne-eqb, ltb-true, ltb-false, leb-true, leb-false, eqb-true, eqb-false, not-false}
 use lib.Dec.{ltb, leb, eqb}
 use lib.ListN.{length, take, drop, getD, length-take}
 use lib.Seq.{length-take-le, getD-take, take-at, drop-at}
 use Rattle.lists.specs.Lists.{held, firstIndex, insertBefore, insertAt, Ascending}
 use Rattle.lists.proofs.Laws.{length-held, held-within, any-at, first-at, first-missing, index-le, index-fits, first-none, none-first, length-insert, insert-at, insert-place, insert-ascending}
 use Rattle.memory_access.specs.declared.Ipa.{Ipa}
+use Rattle.memory_access.proofs.Laws.{cond-map}
 use Rattle.stage2_range.specs.declared.Stage2ConfigError.{Stage2ConfigError}
 use Rattle.stage2_range.specs.declared.Stage2Result.{Stage2Result}
 use Rattle.stage2_range.specs.declared.Stage2Result.the-variants.{Accepted, Refused}
@@ -20,8 +21,8 @@ use Rattle.stage2_range.specs.declared.MemoryAccessRegion.{MemoryAccessR
 use Rattle.stage2_range.specs.declared.Sought.{Sought}
 use Rattle.stage2_range.specs.declared.Sought.the-variants.{Overlap, Address, BaseNotBelow}
 use Rattle.stage2_range.specs.declared.RegionFound.the-variants.{Nothing, Match}
-use Rattle.stage2_range.specs.Registry.{fits, overlapsRegions, findRegion, insertRegion}
-use Rattle.stage2_range.specs.Ranges.{refuseIf, validateRange, sharesByte, overlapsAllowed, alignDown}
+use Rattle.stage2_range.specs.Registry.{fits, overlapsRegions, findRegion, insertRegion, registerAnswer, registerRegion}
+use Rattle.stage2_range.specs.Ranges.{refuseIf, pageMultiple, validateRange, resultNumber, sharesByte, overlapsAllowed, alignDown, alignUp, alignedNumber}
 
 -- two tests that imply each other are equal
 ltb-ext : (a b c d : ℕ) → (a < b → c < d) → (c < d → a < b) → ltb a b ≡ ltb c d
@@ -194,6 +195,34 @@ pub valid-accepted : (base size : ℕ) → ValidRange base size → validateRang
 unfolding validateRange
 valid-accepted base size v =
     rw (eq-eqb (base % 4096) 0 (v .base-aligned), ne-eqb size 0 (v .not-empty), eq-eqb (size % 4096) 0 (v .whole-pages), lt-leb (2 ^ 64) (base + size) (v .ends))
+
+-- "1 to 4 in order", first met wins
+pub validate-number : (base size : ℕ) → resultNumber (validateRange base size) ≡ cond (not (pageMultiple base)) 1 (cond (eqb size 0) 2 (cond (not (pageMultiple size)) 3 (cond (leb (2 ^ 64) (base + size)) 4 0)))
+unfolding validateRange
+validate-number base size =
+    cond-map resultNumber (not (pageMultiple base)) _ _
+    ∙ ap (cond (not (pageMultiple base)) 1) (cond-map resultNumber (eqb size 0) _ _
+    ∙ ap (cond (eqb size 0) 2) (cond-map resultNumber (not (pageMultiple size)) _ _
+    ∙ ap (cond (not (pageMultiple size)) 3) (cond-map resultNumber (leb (2 ^ 64) (base + size)) _ _)))
+
+-- "8, 9", first met wins; a refusal leaves the registry as it was
+module _ (regions : List MemoryAccessRegion) (n : ℕ) (region : MemoryAccessRegion) where
+  pub full-refused : 16 ≤ n → (resultNumber (registerRegion regions n region .answer) ≡ 8) × (registerRegion regions n region .regions ≡ regions) × (registerRegion regions n region .«region_count» ≡ n)
+  unfolding registerRegion registerAnswer
+  full-refused h = let t : leb 16 n ≡ true = le-leb 16 n h in (rw t, rw t, rw t)
+
+  pub overlap-refused : n < 16 → overlapsRegions (held 16 n regions) (region .«base_ipa») (region .«end_ipa») ≡ true → (resultNumber (registerRegion regions n region .answer) ≡ 9) × (registerRegion regions n region .regions ≡ regions) × (registerRegion regions n region .«region_count» ≡ n)
+  unfolding registerRegion registerAnswer
+  overlap-refused h o = let t : leb 16 n ≡ false = lt-leb 16 n h in (rw (t, o), rw (t, o), rw (t, o))
+
+  pub apart-registered : n < 16 → overlapsRegions (held 16 n regions) (region .«base_ipa») (region .«end_ipa») ≡ false → registerRegion regions n region ≡ record { answer = Accepted; regions = insertRegion regions n region; «region_count» = n + 1 }
+  unfolding registerRegion registerAnswer
+  apart-registered h o = rw (lt-leb 16 n h, o)
+
+-- 18 exactly above 2^64 - 4,096
+pub aligned-number : (address : ℕ) → alignedNumber (alignUp address) ≡ cond (ltb (2 ^ 64 - 4096) address) 18 0
+unfolding alignUp
+aligned-number address = cond-map alignedNumber (ltb (2 ^ 64 - 4096) address) _ _
 
 -- Rounding gives the nearest page boundary on its side.
 pub down-nearest : (address : ℕ) → (alignDown address % 4096 ≡ 0) × (alignDown address ≤ address) × (address < alignDown address + 4096)

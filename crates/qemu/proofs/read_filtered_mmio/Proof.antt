@@ -1,5 +1,5 @@
 use borrow.Author.Tests.{eq-eqb, ne-eqb}
-use Rattle.qemu.specs.FilteredMmio.{readFilteredMmio}
+use Rattle.qemu.specs.FilteredMmio.{readFilteredMmio, loadsCounter, counterAfter}
 use borrow.Author.Needs.{needs}
 use Rattle.qemu.proofs.read_filtered_mmio.Statement.{statement}
 use Rattle.qemu.proofs.read_filtered_mmio.Tie as tie
@@ -8,7 +8,7 @@ bits-requires : tie.Need-bits-requires
 bits-requires c κs = search needs
 
 returns : tie.Need-returns
-unfolding readFilteredMmio
+unfolding readFilteredMmio loadsCounter counterAfter
 returns c = rw (← c .before .bits .ensures, ne-eqb _ _ (c .if1 .taken))
 
 word-at-requires : tie.Need-word-at-requires
@@ -18,7 +18,7 @@ counter-after-requires : tie.Need-counter-after-requires
 counter-after-requires c κs = search needs
 
 returns-2 : tie.Need-returns-2
-unfolding readFilteredMmio
+unfolding readFilteredMmio loadsCounter
 returns-2 c = rw (← c .before .before .before .bits .ensures, eq-eqb _ _ (c .before .before .if1 .left), c .before .word-at .ensures, c .counter-after .ensures)
 
 pub read-filtered-mmio-spec : {M : Type 1} → statement M
