@@ -19,15 +19,18 @@ pub fn read_filtered_mmio(access: MemoryReadAccess, counter: u64) -> FilteredRea
     ensures { λ r. ⌜ r ≡ readFilteredMmio access counter ⌝ }
 {
     let width = access.width;
-    if width.bits() != 64 {
-        return FilteredRead {
+    let word = word_at(access.offset, counter);
+    let counted = counter_after(access.offset, counter);
+    if width.bits() == 64 {
+        FilteredRead {
+            result: word,
+            counter: counted,
+        }
+    } else {
+        FilteredRead {
             result: MemoryReadResult::Fault,
             counter,
-        };
-    }
-    FilteredRead {
-        result: word_at(access.offset, counter),
-        counter: counter_after(access.offset, counter),
+        }
     }
 }
 

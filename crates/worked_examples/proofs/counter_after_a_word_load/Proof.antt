@@ -1,0 +1,14 @@
+use Rattle.qemu.specs.FilteredMmio.{readFilteredMmio, loadsCounter, counterAfter}
+use borrow.Author.Needs.{needs}
+use Rattle.worked_examples.proofs.counter_after_a_word_load.Statement.{statement}
+use Rattle.worked_examples.proofs.counter_after_a_word_load.Tie as tie
+
+read-filtered-mmio-requires : tie.Need-read-filtered-mmio-requires
+read-filtered-mmio-requires c κs = search needs
+
+returns : tie.Need-returns
+unfolding readFilteredMmio loadsCounter counterAfter
+returns c = rw (c .read-filtered-mmio .ensures)
+
+pub counter-after-a-word-load-spec : {M : Type 1} → statement M
+counter-after-a-word-load-spec = tie.close (tie.spec read-filtered-mmio-requires returns)

@@ -1,0 +1,2 @@
+-- What the worked values start from.
+pub mod Examples

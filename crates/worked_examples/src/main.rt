@@ -1,0 +1,442 @@
+// Worked values. Each function is one: its contract says what document 01 gives, and the program prints what the run gives.
+ghost use mathlib.Core.Path.{_≡_};
+ghost use Prim.Native.Nat.{_-_, _^_};
+ghost use lib.ListN.{getD};
+ghost use Rattle.memory_access.specs.Syndrome.{valuesOf};
+ghost use Rattle.stage2_range.specs.Ranges.{alignedValue};
+ghost use Rattle.stage2_range.specs.Registry.{foundValues};
+ghost use Rattle.simple_map.specs.Map.{lookupValues};
+ghost use Rattle.exceptions.specs.Registers.{readValue};
+ghost use Rattle.worked_examples.specs.Examples.{readable, twoPages, fullMap};
+use exceptions::Core;
+use exceptions::GprRead;
+use hvc_response::HvcResult;
+use libc::STDOUT_FILENO;
+use memory_access::Decoded;
+use memory_access::Fipa;
+use memory_access::Ipa;
+use memory_access::MemoryAccess;
+use memory_access::MemoryAccessKind;
+use memory_access::MemoryAccessWidth;
+use simple_map::Item;
+use simple_map::Lookup;
+use simple_map::OptionItem;
+use simple_map::Place;
+use simple_map::SimpleMap;
+use simple_map::SuspendCoreData;
+use stage2_range::AlignedUp;
+use stage2_range::MemoryAccessHandler;
+use stage2_range::MemoryAccessRegion;
+use stage2_range::MemoryHandler;
+use stage2_range::MemoryReadAccess;
+use stage2_range::RegionFound;
+use stage2_range::Registered;
+
+// A field of an answer, 0 where it has none.
+fn decoded_ipa(decoded: Decoded) -> u64
+    ensures { λ r. ⌜ r ≡ getD (valuesOf decoded) 0 0 ⌝ }
+{
+    match decoded {
+        Decoded::Access(access) => {
+            let ipa = access.ipa;
+            ipa.0
+        }
+        Decoded::NoSyndrome => 0,
+    }
+}
+
+fn decoded_register(decoded: Decoded) -> u64
+    ensures { λ r. ⌜ r ≡ getD (valuesOf decoded) 3 0 ⌝ }
+{
+    match decoded {
+        Decoded::Access(access) => access.register_index as u64,
+        Decoded::NoSyndrome => 0,
+    }
+}
+
+fn aligned_address(aligned: AlignedUp) -> u64
+    ensures { λ r. ⌜ r ≡ alignedValue aligned ⌝ }
+{
+    match aligned {
+        AlignedUp::Address(address) => address,
+        AlignedUp::NoPageAbove => 0,
+    }
+}
+
+fn found_offset(found: RegionFound) -> u64
+    ensures { λ r. ⌜ r ≡ getD (foundValues found) 5 0 ⌝ }
+{
+    match found {
+        RegionFound::Match(m) => m.offset,
+        RegionFound::Nothing => 0,
+    }
+}
+
+fn entry_point(lookup: Lookup) -> u64
+    ensures { λ r. ⌜ r ≡ getD (lookupValues lookup) 0 0 ⌝ }
+{
+    match lookup {
+        Lookup::Value(value) => value.entry_point,
+        Lookup::Nothing => 0,
+    }
+}
+
+fn register_value(read: GprRead) -> u64
+    ensures { λ r. ⌜ r ≡ readValue read ⌝ }
+{
+    match read {
+        GprRead::Value(value) => value,
+        GprRead::NoSuchRegister => 0,
+    }
+}
+
+// A page number of 53 bits, of which 52 count.
+fn ipa_of_a_wide_fipa() -> u64
+    ensures { λ r. ⌜ r ≡ 0x0900_0FFF ⌝ }
+{
+    decoded_ipa(MemoryAccess::decode(0x0167_0000, Fipa(0x10_0000_0000_9000), 0xFFFF))
+}
+
+fn register_of_a_signed_halfword_load() -> u64
+    ensures { λ r. ⌜ r ≡ 7 ⌝ }
+{
+    decoded_register(MemoryAccess::decode(0x0167_0000, Fipa(0), 0))
+}
+
+fn decode_with_all_but_isv() -> u64
+    ensures { λ r. ⌜ r ≡ 19 ⌝ }
+{
+    MemoryAccess::decode(0xFEFF_FFFF, Fipa(0), 0).number()
+}
+
+fn loaded_signed_halfword() -> u64
+    ensures { λ r. ⌜ r ≡ 0xFFFF_8001 ⌝ }
+{
+    let access = MemoryAccess {
+        ipa: Ipa(0),
+        width: MemoryAccessWidth::U16,
+        kind: MemoryAccessKind::Read,
+        register_index: 7,
+        sign_extend: true,
+        register_width_64: false,
+    };
+    access.extend_read_result(0x8001)
+}
+
+fn stored_halfword() -> u64
+    ensures { λ r. ⌜ r ≡ 0x5678 ⌝ }
+{
+    let access = MemoryAccess {
+        ipa: Ipa(0),
+        width: MemoryAccessWidth::U16,
+        kind: MemoryAccessKind::Write,
+        register_index: 7,
+        sign_extend: false,
+        register_width_64: true,
+    };
+    access.store_value(0x1234_5678)
+}
+
+fn range_of_a_page_and_a_half() -> u64
+    ensures { λ r. ⌜ r ≡ 3 ⌝ }
+{
+    stage2_range::validate_range(0x1000, 0x1800).number()
+}
+
+fn first_page_above() -> u64
+    ensures { λ r. ⌜ r ≡ 0x2000 ⌝ }
+{
+    aligned_address(stage2_range::align_up_to_page(0x1001))
+}
+
+fn no_page_above() -> u64
+    ensures { λ r. ⌜ r ≡ 18 ⌝ }
+{
+    stage2_range::align_up_to_page(0xFFFF_FFFF_FFFF_F001).number()
+}
+
+// A page whose loads are handled.
+fn page(base_ipa: u64, end_ipa: u64) -> MemoryAccessRegion
+    ensures { λ r. ⌜ r ≡ readable «base_ipa» «end_ipa» ⌝ }
+{
+    let handler = MemoryAccessHandler {
+        read: MemoryHandler::FilteredMmio,
+        write: MemoryHandler::Absent,
+    };
+    MemoryAccessRegion {
+        base_ipa,
+        size: 0x1000,
+        handler,
+        end_ipa,
+    }
+}
+
+// Two pages, the later one registered first.
+fn two_pages() -> Registered
+    ensures { λ r. ⌜ r ≡ twoPages ⌝ }
+{
+    let high = page(0x3000, 0x4000);
+    let one = stage2_range::register([high; 16], 0, high);
+    let regions = one.regions;
+    stage2_range::register(regions, one.region_count, page(0x1000, 0x2000))
+}
+
+fn lowest_page() -> u64
+    ensures { λ r. ⌜ r ≡ 0x1000 ⌝ }
+{
+    let two = two_pages();
+    let regions = two.regions;
+    let first = regions[0];
+    first.base_ipa
+}
+
+fn offset_in_the_second_page() -> u64
+    ensures { λ r. ⌜ r ≡ 8 ⌝ }
+{
+    let two = two_pages();
+    let regions = two.regions;
+    found_offset(stage2_range::find_region(regions, two.region_count, Ipa(0x3008)))
+}
+
+fn page_registered_again() -> u64
+    ensures { λ r. ⌜ r ≡ 9 ⌝ }
+{
+    let two = two_pages();
+    let regions = two.regions;
+    let three = stage2_range::register(regions, two.region_count, page(0x1000, 0x2000));
+    let answer = three.answer;
+    answer.number()
+}
+
+fn key_inserted_twice() -> u64
+    ensures { λ r. ⌜ r ≡ 0x9_0000 ⌝ }
+{
+    let before = SuspendCoreData {
+        entry_point: 0x8_0000,
+        context_id: 1,
+    };
+    let after = SuspendCoreData {
+        entry_point: 0x9_0000,
+        context_id: 2,
+    };
+    let once = SimpleMap::new().insert(7, before);
+    let map = once.map;
+    let twice = map.insert(7, after);
+    let held = twice.map;
+    entry_point(held.get(7))
+}
+
+// A map that holds one key in all its places: the key can be inserted, another cannot.
+fn full_map() -> SimpleMap
+    ensures { λ r. ⌜ r ≡ fullMap ⌝ }
+{
+    let value = SuspendCoreData {
+        entry_point: 0x8_0000,
+        context_id: 1,
+    };
+    let place = Place {
+        item: OptionItem::Some(Item { key: 7, value }),
+    };
+    SimpleMap { items: [place; 8] }
+}
+
+fn held_key_into_a_full_map() -> u64
+    ensures { λ r. ⌜ r ≡ 0 ⌝ }
+{
+    let value = SuspendCoreData {
+        entry_point: 0x9_0000,
+        context_id: 2,
+    };
+    let inserted = full_map().insert(7, value);
+    let answer = inserted.answer;
+    answer.number()
+}
+
+fn new_key_into_a_full_map() -> u64
+    ensures { λ r. ⌜ r ≡ 16 ⌝ }
+{
+    let value = SuspendCoreData {
+        entry_point: 0x9_0000,
+        context_id: 2,
+    };
+    let inserted = full_map().insert(8, value);
+    let answer = inserted.answer;
+    answer.number()
+}
+
+fn link_register_written() -> u64
+    ensures { λ r. ⌜ r ≡ 7 ⌝ }
+{
+    let written = Core::fresh().write_gpr(30, 7);
+    let core = written.core;
+    register_value(core.read_gpr(30))
+}
+
+// The bench row "store from Rt 31".
+fn store_from_register_31() -> u64
+    ensures { λ r. ⌜ r ≡ 0 ⌝ }
+{
+    let written = Core::fresh().write_gpr(30, 7);
+    let core = written.core;
+    register_value(core.read_gpr(31))
+}
+
+fn write_of_register_32() -> u64
+    ensures { λ r. ⌜ r ≡ 17 ⌝ }
+{
+    let written = Core::fresh().write_gpr(32, 7);
+    let answer = written.answer;
+    answer.number()
+}
+
+fn register_after_an_error() -> u64
+    ensures { λ r. ⌜ r ≡ 2 ^ 64 - 3 ⌝ }
+{
+    let core = HvcResult::Error(-3).modify_register_state(Core::fresh(), [0u64; 18]);
+    let x = core.x;
+    x[0]
+}
+
+fn reply_of_kind_5() -> u64
+    ensures { λ r. ⌜ r ≡ 15 ⌝ }
+{
+    HvcResult::from_kind(5, 0, 0).number()
+}
+
+fn counter_after_its_last_word() -> u64
+    ensures { λ r. ⌜ r ≡ 0 ⌝ }
+{
+    let access = MemoryReadAccess {
+        ipa: Ipa(0x10),
+        offset: 16,
+        width: MemoryAccessWidth::U64,
+    };
+    qemu::read_filtered_mmio(access, 0xFFFF_FFFF_FFFF_FFFF).counter
+}
+
+fn counter_after_a_word_load() -> u64
+    ensures { λ r. ⌜ r ≡ 5 ⌝ }
+{
+    let access = MemoryReadAccess {
+        ipa: Ipa(0x10),
+        offset: 16,
+        width: MemoryAccessWidth::U32,
+    };
+    qemu::read_filtered_mmio(access, 5).counter
+}
+
+// Begins a line with what is asked, once what was found is what is expected.
+fn asked(text: &[u8], found: u64, expected: u64)
+    requires { ⌜ found ≡ expected ⌝ }
+{
+    check::expect(found == expected);
+    io::write_all(STDOUT_FILENO, text);
+}
+
+// A line with a value that was found.
+fn value(text: &[u8], found: u64, expected: u64)
+    requires { ⌜ found ≡ expected ⌝ }
+{
+    asked(text, found, expected);
+    io::write_all(STDOUT_FILENO, b": 0x");
+    io::print_hex(STDOUT_FILENO, found, 1);
+    io::write_all(STDOUT_FILENO, b"\n");
+}
+
+// A line with the number of an answer.
+fn number(text: &[u8], found: u64, expected: u64)
+    requires { ⌜ found ≡ expected ⌝ }
+{
+    asked(text, found, expected);
+    io::write_all(STDOUT_FILENO, b": answer ");
+    io::print_decimal(STDOUT_FILENO, found);
+    io::write_all(STDOUT_FILENO, b"\n");
+}
+
+fn accesses() {
+    value(
+        b"IPA of FIPA 0x10000000009000, FAR 0xFFFF",
+        ipa_of_a_wide_fipa(),
+        0x0900_0FFF,
+    );
+    value(
+        b"register of ISS 0x01670000",
+        register_of_a_signed_halfword_load(),
+        7,
+    );
+    number(b"decode of ISS 0xFEFFFFFF", decode_with_all_but_isv(), 19);
+    value(
+        b"load of 16 bits 0x8001, SSE set, SF clear",
+        loaded_signed_halfword(),
+        0xFFFF_8001,
+    );
+    value(b"store of 16 bits of 0x12345678", stored_halfword(), 0x5678);
+}
+
+fn ranges() {
+    number(
+        b"range at 0x1000, size 0x1800",
+        range_of_a_page_and_a_half(),
+        3,
+    );
+    value(b"page at or above 0x1001", first_page_above(), 0x2000);
+    number(b"page at or above 0xFFFFFFFFFFFFF001", no_page_above(), 18);
+    value(
+        b"regions 0x3000, then 0x1000: first base",
+        lowest_page(),
+        0x1000,
+    );
+    value(
+        b"regions 0x3000, then 0x1000: offset of 0x3008",
+        offset_in_the_second_page(),
+        8,
+    );
+    number(
+        b"regions 0x3000, then 0x1000: 0x1000 again",
+        page_registered_again(),
+        9,
+    );
+}
+
+fn maps() {
+    value(
+        b"key inserted twice: entry point",
+        key_inserted_twice(),
+        0x9_0000,
+    );
+    number(b"full map: its key again", held_key_into_a_full_map(), 0);
+    number(b"full map: another key", new_key_into_a_full_map(), 16);
+}
+
+fn registers() {
+    value(b"x30 after a write of 7", link_register_written(), 7);
+    value(b"store from Rt 31", store_from_register_31(), 0);
+    number(b"write of x32", write_of_register_32(), 17);
+    value(
+        b"x0 after error -3",
+        register_after_an_error(),
+        0xFFFF_FFFF_FFFF_FFFD,
+    );
+    number(b"reply of kind 5", reply_of_kind_5(), 15);
+}
+
+fn counters() {
+    value(
+        b"counter 2^64 - 1 after a load of its word",
+        counter_after_its_last_word(),
+        0,
+    );
+    value(
+        b"counter 5 after a 32-bit load of offset 16",
+        counter_after_a_word_load(),
+        5,
+    );
+}
+
+fn main() {
+    accesses();
+    ranges();
+    maps();
+    registers();
+    counters();
+}
