@@ -7,7 +7,7 @@ ghost use Rattle.stage2_range.specs.Ranges.{alignedValue};
 ghost use Rattle.stage2_range.specs.Registry.{foundValues};
 ghost use Rattle.simple_map.specs.Map.{lookupValues};
 ghost use Rattle.exceptions.specs.Registers.{readValue};
-ghost use Rattle.worked_examples.specs.Examples.{readable, twoPages, fullMap};
+ghost use Rattle.worked_examples.specs.Examples.{signedHalfword, readable, twoPages, intoFullMap, counterLoad};
 use exceptions::Core;
 use exceptions::GprRead;
 use hvc_response::HvcResult;
@@ -18,6 +18,7 @@ use memory_access::Ipa;
 use memory_access::MemoryAccess;
 use memory_access::MemoryAccessKind;
 use memory_access::MemoryAccessWidth;
+use simple_map::Inserted;
 use simple_map::Item;
 use simple_map::Lookup;
 use simple_map::OptionItem;
@@ -109,32 +110,30 @@ fn decode_with_all_but_isv() -> u64
     MemoryAccess::decode(0xFEFF_FFFF, Fipa(0), 0).number()
 }
 
-fn loaded_signed_halfword() -> u64
-    ensures { λ r. ⌜ r ≡ 0xFFFF_8001 ⌝ }
+// A 16-bit access with SSE set and SF clear.
+fn signed_halfword() -> MemoryAccess
+    ensures { λ r. ⌜ r ≡ signedHalfword ⌝ }
 {
-    let access = MemoryAccess {
+    MemoryAccess {
         ipa: Ipa(0),
         width: MemoryAccessWidth::U16,
         kind: MemoryAccessKind::Read,
         register_index: 7,
         sign_extend: true,
         register_width_64: false,
-    };
-    access.extend_read_result(0x8001)
+    }
+}
+
+fn loaded_signed_halfword() -> u64
+    ensures { λ r. ⌜ r ≡ 0xFFFF_8001 ⌝ }
+{
+    signed_halfword().extend_read_result(0x8001)
 }
 
 fn stored_halfword() -> u64
     ensures { λ r. ⌜ r ≡ 0x5678 ⌝ }
 {
-    let access = MemoryAccess {
-        ipa: Ipa(0),
-        width: MemoryAccessWidth::U16,
-        kind: MemoryAccessKind::Write,
-        register_index: 7,
-        sign_extend: false,
-        register_width_64: true,
-    };
-    access.store_value(0x1234_5678)
+    signed_halfword().store_value(0x1234_5678)
 }
 
 fn range_of_a_page_and_a_half() -> u64
@@ -226,9 +225,9 @@ fn key_inserted_twice() -> u64
     entry_point(held.get(7))
 }
 
-// A map that holds one key in all its places: the key can be inserted, another cannot.
-fn full_map() -> SimpleMap
-    ensures { λ r. ⌜ r ≡ fullMap ⌝ }
+// A map that holds one key in all its places, with another item inserted.
+fn into_full_map(key: u64) -> Inserted
+    ensures { λ r. ⌜ r ≡ intoFullMap key ⌝ }
 {
     let value = SuspendCoreData {
         entry_point: 0x8_0000,
@@ -237,30 +236,21 @@ fn full_map() -> SimpleMap
     let place = Place {
         item: OptionItem::Some(Item { key: 7, value }),
     };
-    SimpleMap { items: [place; 8] }
+    let map = SimpleMap { items: [place; 8] };
+    map.insert(key, value)
 }
 
 fn held_key_into_a_full_map() -> u64
     ensures { λ r. ⌜ r ≡ 0 ⌝ }
 {
-    let value = SuspendCoreData {
-        entry_point: 0x9_0000,
-        context_id: 2,
-    };
-    let inserted = full_map().insert(7, value);
-    let answer = inserted.answer;
+    let answer = into_full_map(7).answer;
     answer.number()
 }
 
 fn new_key_into_a_full_map() -> u64
     ensures { λ r. ⌜ r ≡ 16 ⌝ }
 {
-    let value = SuspendCoreData {
-        entry_point: 0x9_0000,
-        context_id: 2,
-    };
-    let inserted = full_map().insert(8, value);
-    let answer = inserted.answer;
+    let answer = into_full_map(8).answer;
     answer.number()
 }
 
@@ -303,25 +293,28 @@ fn reply_of_kind_5() -> u64
     HvcResult::from_kind(5, 0, 0).number()
 }
 
+// A load of the word at offset 16.
+fn counter_load(width: MemoryAccessWidth) -> MemoryReadAccess
+    ensures { λ r. ⌜ r ≡ counterLoad width ⌝ }
+{
+    MemoryReadAccess {
+        ipa: Ipa(0x10),
+        offset: 16,
+        width,
+    }
+}
+
 fn counter_after_its_last_word() -> u64
     ensures { λ r. ⌜ r ≡ 0 ⌝ }
 {
-    let access = MemoryReadAccess {
-        ipa: Ipa(0x10),
-        offset: 16,
-        width: MemoryAccessWidth::U64,
-    };
+    let access = counter_load(MemoryAccessWidth::U64);
     qemu::read_filtered_mmio(access, 0xFFFF_FFFF_FFFF_FFFF).counter
 }
 
 fn counter_after_a_word_load() -> u64
     ensures { λ r. ⌜ r ≡ 5 ⌝ }
 {
-    let access = MemoryReadAccess {
-        ipa: Ipa(0x10),
-        offset: 16,
-        width: MemoryAccessWidth::U32,
-    };
+    let access = counter_load(MemoryAccessWidth::U32);
     qemu::read_filtered_mmio(access, 5).counter
 }
 
