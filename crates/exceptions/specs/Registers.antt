@@ -1,10 +1,9 @@
 -- A core's saved registers (document 01, "Core"). Assumes nothing.
 use mathlib.Core.Bool.{cond}
-use mathlib.Core.List.{List, [], _∷_}
+use mathlib.Core.List.{List}
 use Prim.Native.Nat.{ℕ}
 use lib.Dec.{eqb, ltb}
 use lib.ListN.{getD, set, replicate}
-use Rattle.exceptions.specs.declared.Wait.{Wait}
 use Rattle.exceptions.specs.declared.Wait.the-variants.{Nothing}
 use Rattle.exceptions.specs.declared.Core.{Core}
 use Rattle.exceptions.specs.declared.GprRead.{GprRead}

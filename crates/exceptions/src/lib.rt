@@ -2,13 +2,13 @@
 ghost use mathlib.Core.Path.{_≡_};
 ghost use Rattle.exceptions.specs.Registers.{freshCore, readGpr, readNumber, writeGpr, writeNumber};
 
-// How a call left the guest (SMCCC's conduit).
+// How a call left the guest: the SMCCC's conduit.
 pub enum Conduit {
     Hvc,
     Smc,
 }
 
-// Who is to answer a forwarded call.
+// Who is to answer a forwarded call (document 01: a hand-out).
 pub enum Recipient {
     Firmware,
     Platform,
@@ -49,6 +49,7 @@ pub enum GprWrite {
     GuestRegisterWriteError,
 }
 
+// The answer, and the core then.
 pub struct GprWritten {
     pub answer: GprWrite,
     pub core: Core,

@@ -1,7 +1,7 @@
 -- Replies to forwarded calls (document 01, "Reply"). Assumes nothing.
-use Prim.Native.Nat.{ℕ, zero, suc, _-_, _^_}
+use Prim.Native.Nat.{ℕ, suc, _-_, _^_}
 use mathlib.Core.List.{List, [], _∷_, _++_}
-use lib.ListN.{length, take, drop}
+use lib.ListN.{length, take, drop, getD}
 use lib.IntN.{ℤ, pos, negsuc}
 use Rattle.exceptions.specs.declared.Core.{Core}
 use Rattle.exceptions.specs.Registers.{withRegisters}
@@ -34,12 +34,8 @@ withFirst core values = withRegisters core (values ++ drop (length values) (core
 
 -- "Kind 0 unhandled, 1 one value, 2 four values, 3 eighteen values, 4 an error"; 15 "kind above 4"
 unfoldable pub resultOfKind : ℕ → ℕ → ℤ → HvcResultKind
-resultOfKind zero value error = Result Unhandled
-resultOfKind (suc zero) value error = Result (Value value)
-resultOfKind (suc (suc zero)) value error = Result Success
-resultOfKind (suc (suc (suc zero))) value error = Result SuccessLarge
-resultOfKind (suc (suc (suc (suc zero)))) value error = Result (Error error)
-resultOfKind (suc (suc (suc (suc (suc n))))) value error = UnknownKind
+resultOfKind kind value error =
+    getD (Result Unhandled ∷ Result (Value value) ∷ Result Success ∷ Result SuccessLarge ∷ Result (Error error) ∷ []) kind UnknownKind
 
 -- the number of an answer in document 01's table
 abbrev pub kindNumber : HvcResultKind → ℕ

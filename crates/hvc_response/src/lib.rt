@@ -1,12 +1,12 @@
 // RITM's src/hvc_response.rs: what a call's result does to the saved registers.
 ghost use mathlib.Core.Path.{_≡_};
-ghost use mathlib.Core.List.{[], _∷_};
+ghost use mathlib.Core.List.{_∷_};
 ghost use Prim.Native.Nat.{_≤_};
 ghost use lib.ListN.{take, replicate};
 ghost use Rattle.hvc_response.specs.Response.{signedWord, withFirst, response, resultOfKind, kindNumber};
 use exceptions::Core;
 
-// The result of a forwarded call: RITM's `HvcResult` and `HvcResponse` in one. The four or eighteen values of a success stand beside it.
+// The result of a forwarded call (document 01: a reply): RITM's `HvcResult` and `HvcResponse` in one. The four or eighteen values of a success stand beside it.
 pub enum HvcResult {
     Unhandled,
     Value(u64),

@@ -1,5 +1,5 @@
 -- Laws on the definitions of `specs/`, and on the loops that compute them over the first `m` elements of a list. Assumes nothing.
-use Prim.Native.Nat.{ℕ, zero, suc, _+_, _≤_, _<_, min}
+use Prim.Native.Nat.{ℕ, suc, _+_, _≤_, _<_, min}
 use mathlib.Core.Path.{_≡_, refl, sym, _∙_, ap}
 use mathlib.Core.Bool.{Bool, true, false, _||_, cond, or-true}
 use mathlib.Core.List.{List, [], _∷_, _++_, map, List·Memᴰ, List·Memᴰ·head, List·Memᴰ·tail, List·Memᴰ·not-nil, List·Memᴰ·cases-cons, append-assoc}
@@ -180,12 +180,12 @@ module _ {A B : Type 0} (fits : A → Bool) (hit : A → B) (none : B) where
   none-first [] h = refl
   none-first (x ∷ xs) h = rw (h x (List·Memᴰ·head refl)) (none-first xs (λ y m. h y (List·Memᴰ·tail m)))
 
-  pub first-none : ((x : A) → hit x ≡ none → ⊥) → (l : List A) → firstOf fits hit none l ≡ none → (x : A) → List·Memᴰ x l → fits x ≡ false
+  pub first-none : ((x : A) → fits x ≡ true → hit x ≡ none → ⊥) → (l : List A) → firstOf fits hit none l ≡ none → (x : A) → List·Memᴰ x l → fits x ≡ false
   first-none differ [] e x m = absurd (List·Memᴰ·not-nil m)
   first-none differ (y ∷ ys) e x m = go (fits y) refl e (List·Memᴰ·cases-cons m) (λ e′ m′. first-none differ ys e′ x m′)
     where
       go : (b : Bool) → fits y ≡ b → cond b (hit y) (firstOf fits hit none ys) ≡ none → (x ≡ y) ⊎ List·Memᴰ x ys → (firstOf fits hit none ys ≡ none → List·Memᴰ x ys → fits x ≡ false) → fits x ≡ false
-      go true f e′ w below = absurd (differ y e′)
+      go true f e′ w below = absurd (differ y f e′)
       go false f e′ (inl s) below = ap fits s ∙ f
       go false f e′ (inr m′) below = below e′ m′
 

@@ -5,7 +5,7 @@ use mathlib.Core.List.{[], _∷_}
 use Prim.Native.Nat.{ℕ, zero, suc, _+_, _*_, _/_, _%_, _^_, _-_, _<_, _≤_}
 use native.Mathlib.Nat.{zero-mul, one-mul, suc-mul, mod-lt, pow-suc}
 use native.Mathlib.Omega.{arith}
-use borrow.Author.Tests.{ne-eqb, eq-eqb}
+use borrow.Author.Tests.{ne-eqb}
 use lib.Bits.{bitAnd, bitOr, and-mask, and-high, or-shifted}
 use lib.Dec.{eqb, lit<, lit≤}
 use lib.ListN.{replicate}
@@ -13,8 +13,6 @@ use lib.Pow.{high-ones, pow-pos, pow-mono, mod-pow-add}
 use Rattle.memory_access.specs.Syndrome.{bitsAt, bitAt, isv, sas, sse, srt, sf, wnr, widthOf, bitsOf, kindOf, faultIpa, decodeAccess, numberOf, kindNumber, flagNumber, valuesOf}
 use Rattle.memory_access.specs.Transfer.{lowBits, signExtend}
 use Rattle.memory_access.specs.declared.Fipa.{Fipa}
-use Rattle.memory_access.specs.declared.MemoryAccess.{MemoryAccess}
-use Rattle.memory_access.specs.declared.Decoded.the-variants.{Access, NoSyndrome}
 use Rattle.memory_access.specs.declared.MemoryAccessWidth.{MemoryAccessWidth}
 use Rattle.memory_access.specs.declared.MemoryAccessWidth.the-variants.{U8, U16, U32, U64}
 
@@ -49,7 +47,8 @@ pub widest : (n : ℕ) → (n ≡ 0 → ⊥) → (n ≡ 1 → ⊥) → (n ≡ 2 
 widest zero a b c = absurd (a refl)
 widest (suc zero) a b c = absurd (b refl)
 widest (suc (suc zero)) a b c = absurd (c refl)
-widest (suc (suc (suc n))) a b c = refl
+widest (suc (suc (suc zero))) a b c = refl
+widest (suc (suc (suc (suc n)))) a b c = refl
 
 -- `(f << 12) | (a & 0xFFF)`: the shift drops the bits of `f` from 52 on
 pub page-and-offset : (f a : ℕ) → bitOr (f * 2 ^ 12 % 2 ^ 64) (bitAnd a (2 ^ 12 - 1)) ≡ f % 2 ^ 52 * 4096 + a % 4096

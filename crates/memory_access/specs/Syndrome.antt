@@ -2,16 +2,15 @@
 -- Arm DDI 0601, ESR_EL2, "ISS encoding for an exception from a Data Abort". Assumes nothing.
 use mathlib.Core.Bool.{Bool, true, false, cond}
 use mathlib.Core.List.{List, [], _∷_}
-use Prim.Native.Nat.{ℕ, zero, suc, _+_, _*_, _/_, _%_, _^_}
+use Prim.Native.Nat.{ℕ, _+_, _*_, _/_, _%_, _^_}
 use lib.Dec.{eqb}
-use lib.ListN.{replicate}
+use lib.ListN.{getD, replicate}
 use Rattle.memory_access.specs.declared.Fipa.{Fipa}
 use Rattle.memory_access.specs.declared.Ipa.{Ipa}
 use Rattle.memory_access.specs.declared.MemoryAccessWidth.{MemoryAccessWidth}
 use Rattle.memory_access.specs.declared.MemoryAccessWidth.the-variants.{U8, U16, U32, U64}
 use Rattle.memory_access.specs.declared.MemoryAccessKind.{MemoryAccessKind}
 use Rattle.memory_access.specs.declared.MemoryAccessKind.the-variants.{Read, Write}
-use Rattle.memory_access.specs.declared.MemoryAccess.{MemoryAccess}
 use Rattle.memory_access.specs.declared.Decoded.{Decoded}
 use Rattle.memory_access.specs.declared.Decoded.the-variants.{Access, NoSyndrome}
 
@@ -49,10 +48,7 @@ wnr iss = bitAt iss 6
 
 -- "SAS 0 to 3 means 8, 16, 32, 64 bits"
 abbrev pub widthOf : ℕ → MemoryAccessWidth
-widthOf zero = U8
-widthOf (suc zero) = U16
-widthOf (suc (suc zero)) = U32
-widthOf (suc (suc (suc n))) = U64
+widthOf sas = getD (U8 ∷ U16 ∷ U32 ∷ U64 ∷ []) sas U64
 
 -- an access width in bits
 abbrev pub bitsOf : MemoryAccessWidth → ℕ

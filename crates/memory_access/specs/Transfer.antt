@@ -1,5 +1,5 @@
 -- The value that an access moves between its register and memory (document 01, "Access"). Assumes nothing.
-use mathlib.Core.Bool.{Bool, true, false, cond}
+use mathlib.Core.Bool.{Bool, cond}
 use Prim.Native.Nat.{ℕ, _+_, _-_, _%_, _^_}
 use Rattle.memory_access.specs.declared.MemoryAccess.{MemoryAccess}
 use Rattle.memory_access.specs.Syndrome.{bitAt, bitsOf}

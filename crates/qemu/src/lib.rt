@@ -1,4 +1,4 @@
-// RITM's src/platform/qemu.rs, of which the filtered MMIO page is carried over.
+// RITM's src/platform/qemu.rs, of which the filtered MMIO page (document 01: the filtered page) is carried over.
 ghost use mathlib.Core.Path.{_≡_};
 ghost use lib.Dec.{eqb};
 ghost use Rattle.qemu.specs.FilteredMmio.{wordAt, counterAfter, readFilteredMmio, writeFilteredMmio};

@@ -20,6 +20,7 @@ use Rattle.simple_map.specs.declared.Insertion.the-variants.{Accepted, C
 use Rattle.simple_map.specs.declared.Inserted.{Inserted}
 use Rattle.simple_map.specs.declared.Removed.{Removed}
 
+-- a place that holds no item
 abbrev pub freePlace : Place
 freePlace = record { item = None }
 
@@ -34,10 +35,11 @@ itemFits Free (Some i) = false
 itemFits (Key key) None = false
 itemFits (Key key) (Some i) = eqb (i .key) key
 
+-- a place holds what a search looks for
 unfoldable pub fits : Sought → Place → Bool
 fits sought place = itemFits sought (place .item)
 
--- a place holds no item
+-- a place is free
 abbrev pub isFree : Place → Bool
 isFree = fits Free
 
@@ -45,6 +47,7 @@ isFree = fits Free
 abbrev pub holdsKey : ℕ → Place → Bool
 holdsKey key = fits (Key key)
 
+-- the value of an item, or none
 abbrev pub itemValue : OptionItem → Lookup
 itemValue None = Nothing
 itemValue (Some i) = Value (i .value)

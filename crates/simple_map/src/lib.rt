@@ -13,6 +13,7 @@ pub struct SuspendCoreData {
     pub context_id: u64,
 }
 
+// Document 01: a parked entry.
 pub struct Item {
     pub key: u64,
     pub value: SuspendCoreData,

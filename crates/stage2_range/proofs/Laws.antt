@@ -1,13 +1,13 @@
 -- Laws on ranges, on the searches over them and on the registry. Assumes nothing.
-use Prim.Native.Nat.{ℕ, _+_, _*_, _/_, _-_, _%_, _^_, _≤_, _<_, min, max}
+use Prim.Native.Nat.{ℕ, _+_, _-_, _%_, _^_, _≤_, _<_, min, max}
 use mathlib.Core.Path.{_≡_, refl, sym, _∙_, ap}
 use mathlib.Core.Bool.{Bool, true, false, not, _&&_, cond, true≢false}
-use mathlib.Core.List.{List, [], _∷_, _++_, List·Memᴰ}
+use mathlib.Core.List.{List, _∷_, _++_, List·Memᴰ}
 use native.Mathlib.Omega.{arith}
 use native.Mathlib.Numerals.{add-one}
 use borrow.Author.Tests.{lt-ltb, le-ltb, le-leb, lt-leb, eq-eqb, ne-eqb, ltb-true, ltb-false, leb-true, leb-false, eqb-true, eqb-false, not-false}
 use lib.Dec.{ltb, leb, eqb}
-use lib.ListN.{length, take, drop, getD, length-take}
+use lib.ListN.{length, take, drop, getD}
 use lib.Seq.{length-take-le, getD-take, take-at, drop-at}
 use Rattle.lists.specs.Lists.{held, firstIndex, insertBefore, insertAt, Ascending}
 use Rattle.lists.proofs.Laws.{length-held, held-within, any-at, first-at, first-missing, index-le, index-fits, first-none, none-first, length-insert, insert-at, insert-place, insert-ascending}
@@ -15,7 +15,7 @@ use Rattle.memory_access.specs.declared.Ipa.{Ipa}
 use Rattle.memory_access.proofs.Laws.{cond-map}
 use Rattle.stage2_range.specs.declared.Stage2ConfigError.{Stage2ConfigError}
 use Rattle.stage2_range.specs.declared.Stage2Result.{Stage2Result}
-use Rattle.stage2_range.specs.declared.Stage2Result.the-variants.{Accepted, Refused}
+use Rattle.stage2_range.specs.declared.Stage2Result.the-variants.{Accepted}
 use Rattle.stage2_range.specs.declared.Stage2Range.{Stage2Range}
 use Rattle.stage2_range.specs.declared.MemoryAccessRegion.{MemoryAccessRegion}
 use Rattle.stage2_range.specs.declared.Sought.{Sought}
@@ -119,7 +119,7 @@ differs r offset e = let z : _≡_ {A = ℕ} 0 1 = cc in omega arith
 
 pub find-none : (regions : List MemoryAccessRegion) (ipa : Ipa) → findRegion regions ipa ≡ Nothing → (r : MemoryAccessRegion) → List·Memᴰ r regions → fits (Address (ipa .0)) r ≡ false
 unfolding findRegion
-find-none regions ipa e = first-none (fits (Address (ipa .0))) _ Nothing (λ r. differs r (ipa .0 - r .«base_ipa»)) regions e
+find-none regions ipa e = first-none (fits (Address (ipa .0))) _ Nothing (λ r t. differs r (ipa .0 - r .«base_ipa»)) regions e
 
 pub none-find : (regions : List MemoryAccessRegion) (ipa : Ipa) → ((r : MemoryAccessRegion) → List·Memᴰ r regions → fits (Address (ipa .0)) r ≡ false) → findRegion regions ipa ≡ Nothing
 unfolding findRegion
@@ -127,7 +127,7 @@ none-find regions ipa h = none-first (fits (Address (ipa .0))) _ Nothing regions
 
 pub regions-apart : (regions : List MemoryAccessRegion) (base end : ℕ) → overlapsRegions regions base end ≡ false → (r : MemoryAccessRegion) → List·Memᴰ r regions → sharesByte (r .«base_ipa») (r .«end_ipa») base end ≡ false
 unfolding overlapsRegions fits
-regions-apart regions base end e = first-none (fits (Overlap base end)) (λ r. true) false (λ r. true≢false) regions e
+regions-apart regions base end e = first-none (fits (Overlap base end)) (λ r. true) false (λ r t. true≢false) regions e
 
 pub apart-regions : (regions : List MemoryAccessRegion) (base end : ℕ) → ((r : MemoryAccessRegion) → List·Memᴰ r regions → sharesByte (r .«base_ipa») (r .«end_ipa») base end ≡ false) → overlapsRegions regions base end ≡ false
 unfolding overlapsRegions fits
@@ -135,7 +135,7 @@ apart-regions regions base end h = none-first (fits (Overlap base end)) (λ r. t
 
 pub allowed-apart : (ranges : List Stage2Range) (base end : ℕ) → overlapsAllowed ranges base end ≡ false → (r : Stage2Range) → List·Memᴰ r ranges → sharesByte (r .«base_ipa») (r .«end_ipa») base end ≡ false
 unfolding overlapsAllowed
-allowed-apart ranges base end e = first-none (λ r. sharesByte (r .«base_ipa») (r .«end_ipa») base end) (λ r. true) false (λ r. true≢false) ranges e
+allowed-apart ranges base end e = first-none (λ r. sharesByte (r .«base_ipa») (r .«end_ipa») base end) (λ r. true) false (λ r t. true≢false) ranges e
 
 pub apart-allowed : (ranges : List Stage2Range) (base end : ℕ) → ((r : Stage2Range) → List·Memᴰ r ranges → sharesByte (r .«base_ipa») (r .«end_ipa») base end ≡ false) → overlapsAllowed ranges base end ≡ false
 unfolding overlapsAllowed

@@ -32,7 +32,7 @@ pub enum Stage2Result {
     Refused(Stage2ConfigError),
 }
 
-// Who serves the loads or the stores of a region, where RITM has an optional function: nobody, or the filtered MMIO page.
+// Who serves the loads or the stores of a region (document 01: a half), where RITM has an optional function: nobody, or the filtered MMIO page.
 pub enum MemoryHandler {
     Absent,
     FilteredMmio,
@@ -68,7 +68,7 @@ pub enum MemoryWriteResult {
     Fault,
 }
 
-// A range that the guest may use directly. (RITM's record has no attributes: they go to the page table alone.)
+// A range that the guest may use directly (document 01: an allowed range). (RITM's record has no attributes: they go to the page table alone.)
 pub struct Stage2Range {
     pub base_ipa: u64,
     pub size: u64,
@@ -76,7 +76,7 @@ pub struct Stage2Range {
     pub attributes: u64,
 }
 
-// A range whose accesses are handled.
+// A range whose accesses are handled (document 01: a region).
 pub struct MemoryAccessRegion {
     pub base_ipa: u64,
     pub size: u64,
@@ -84,6 +84,7 @@ pub struct MemoryAccessRegion {
     pub end_ipa: u64,
 }
 
+// A region that has an address, and the offset of the address in it.
 pub struct MemoryAccessHandlerMatch {
     pub region: MemoryAccessRegion,
     pub offset: u64,

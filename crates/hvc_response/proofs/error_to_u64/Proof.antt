@@ -1,3 +1,4 @@
+-- Below zero the register is the complement of -1 - error, which is not negative; else it is the error itself.
 use Prim.Native.Nat.{_<_, _^_}
 use mathlib.Core.Path.{ap}
 use lib.IntN.{natAbs}

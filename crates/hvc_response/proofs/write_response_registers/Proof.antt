@@ -1,3 +1,4 @@
+-- The loop's invariant: the registers before `index` are written.
 use Prim.Native.Nat.{_≤_, _-_}
 use mathlib.Core.Path.{_≡_, refl}
 use native.Mathlib.Omega.{arith}

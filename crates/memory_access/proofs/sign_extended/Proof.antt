@@ -1,3 +1,4 @@
+-- One law over the width answers both branches; `bits-range` says that each width has from 1 to 64 bits.
 use native.Mathlib.Omega.{arith}
 use Rattle.memory_access.specs.Syndrome.{bitsOf}
 use Rattle.memory_access.proofs.Laws.{bits-range, sign-clear, sign-set, sign-fits}

@@ -1,3 +1,4 @@
+-- The loop's invariant: the place is `i` places further than the first that fits among those not yet passed.
 use Prim.Native.Nat.{_-_}
 use mathlib.Core.Path.{sym, _∙_}
 use native.Mathlib.Omega.{arith}

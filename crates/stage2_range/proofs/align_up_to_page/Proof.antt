@@ -1,4 +1,3 @@
-use Prim.Native.Nat.{_-_, _^_}
 use borrow.Author.Tests.{lt-ltb, le-ltb}
 use Rattle.stage2_range.specs.Ranges.{alignUp}
 use borrow.Author.Needs.{needs}

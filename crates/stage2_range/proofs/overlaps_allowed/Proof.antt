@@ -1,3 +1,4 @@
+-- The loop's invariant: whether a range overlaps is decided by the ranges not yet passed.
 use Prim.Native.Nat.{_-_, min}
 use mathlib.Core.Path.{refl, sym, _∙_}
 use mathlib.Core.Bool.{true, false}

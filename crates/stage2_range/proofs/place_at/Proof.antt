@@ -1,3 +1,4 @@
+-- The loop's invariant: to insert the carried region at place `i` of the array as it is gives the answer.
 use Prim.Native.Nat.{_≤_, _-_}
 use mathlib.Core.Path.{_≡_, refl, sym, _∙_}
 use native.Mathlib.Omega.{arith}

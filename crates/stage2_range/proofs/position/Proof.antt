@@ -1,5 +1,6 @@
+-- The loop's invariant: the place is `i` places further than the first that fits among the regions not yet passed.
 use Prim.Native.Nat.{_-_, min}
-use mathlib.Core.Path.{refl, sym, _∙_}
+use mathlib.Core.Path.{sym, _∙_}
 use native.Mathlib.Omega.{arith}
 use borrow.Author.Needs.{needs}
 use Rattle.lists.specs.Lists.{held, firstIndex}
