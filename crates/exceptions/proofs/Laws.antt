@@ -13,7 +13,8 @@ use Rattle.exceptions.specs.Registers.{withRegisters, readGpr, readNumbe
 
 -- Both calls are refused, with 17, exactly where the index is above 31; a refusal has no value and leaves the core as it was.
 module _ (core : Core) (index value : ℕ) where
-  pub above-refused : 31 < index → (readNumber (readGpr core index) ≡ 17) × (readValue (readGpr core index) ≡ 0) × (writeNumber (writeGpr core index value .answer) ≡ 17) × (writeGpr core index value .core ≡ core)
+  pub above-refused : 31 < index
+      → (readNumber (readGpr core index) ≡ 17) × (readValue (readGpr core index) ≡ 0) × (writeNumber (writeGpr core index value .answer) ≡ 17) × (writeGpr core index value .core ≡ core)
   unfolding readGpr writeGpr
   above-refused h =
       let below : ltb index 31 ≡ false = le-ltb index 31 (omega arith) in

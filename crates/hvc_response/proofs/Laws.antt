@@ -47,10 +47,16 @@ natural (pos n) f t = (refl, omega arith)
 natural (negsuc n) f t = absurd (true≢false t)
 
 -- the first registers are written one by one
-next-register : (x values : List ℕ) (i : ℕ) → i < length x → i < length values → set (take i values ++ drop i x) i (getD values i 0) ≡ take (i + 1) values ++ drop (i + 1) x
+next-register : (x values : List ℕ) (i : ℕ) → i < length x → i < length values
+    → set (take i values ++ drop i x) i (getD values i 0) ≡ take (i + 1) values ++ drop (i + 1) x
 next-register x values i h k =
     let n : length (take i values) ≡ i = length-take-le i values (omega arith) in
-    rw (add-one, drop-cons x i 0, take-suc values i 0, append-snoc) (set-at (take i values) (getD x i 0) (drop (suc i) x) (getD values i 0) i n)
+    rw (
+      add-one,
+      drop-cons x i 0,
+      take-suc values i 0,
+      append-snoc,
+    ) (set-at (take i values) (getD x i 0) (drop (suc i) x) (getD values i 0) i n)
 
 -- A loop writes the first registers of `core`: those before place `i` are written in `next`.
 pub record Written (core : Core) (values : List ℕ) (i : ℕ) (next : Core) : Type 0 where
@@ -58,7 +64,8 @@ pub record Written (core : Core) (values : List ℕ) (i : ℕ) (next : Core) : T
   pub so-far : next ≡ withFirst core (take i values)
 
 module _ (core next : Core) (values : List ℕ) (i : ℕ) (inv : Written core values i next) where
-  pub write-next : i < length (core .x) → i < length values → Written core values (i + 1) (withRegisters next (set (next .x) i (getD values i 0)))
+  pub write-next : i < length (core .x) → i < length values
+      → Written core values (i + 1) (withRegisters next (set (next .x) i (getD values i 0)))
   unfolding withFirst withRegisters
   write-next h k =
       let n : length (take i values) ≡ i = length-take-le i values (omega arith) in
@@ -69,7 +76,8 @@ module _ (core next : Core) (values : List ℕ) (i : ℕ) (inv : Written core va
       }
 
 -- a kind that is none of 0 to 4
-pub unknown-kind : (kind value : ℕ) (error : ℤ) → (kind ≡ 0 → ⊥) → (kind ≡ 1 → ⊥) → (kind ≡ 2 → ⊥) → (kind ≡ 3 → ⊥) → (kind ≡ 4 → ⊥) → UnknownKind ≡ resultOfKind kind value error
+pub unknown-kind : (kind value : ℕ) (error : ℤ) → (kind ≡ 0 → ⊥) → (kind ≡ 1 → ⊥) → (kind ≡ 2 → ⊥) → (kind ≡ 3 → ⊥) → (kind ≡ 4 → ⊥)
+    → UnknownKind ≡ resultOfKind kind value error
 unfolding resultOfKind
 unknown-kind zero value error a b c d e = absurd (a refl)
 unknown-kind (suc zero) value error a b c d e = absurd (b refl)

@@ -13,7 +13,8 @@ use lib.Seq.{length-take-le, drop-cons, getD-take, take-all, take-take, take-suc
 use Rattle.lists.specs.Lists.{held, firstOf, anyOf, firstIndex, replaceFirst, insertBefore, insertAt, Ascending}
 
 -- what is left of the first `m` from place `i` on begins with the element there
-pub drop-step : {A : Type 0} (l : List A) (m i : ℕ) (d : A) → i < m → m ≤ length l → drop i (take m l) ≡ getD l i d ∷ drop (i + 1) (take m l)
+pub drop-step : {A : Type 0} (l : List A) (m i : ℕ) (d : A) → i < m → m ≤ length l
+    → drop i (take m l) ≡ getD l i d ∷ drop (i + 1) (take m l)
 drop-step l m i d h k =
     let s : i < length (take m l) = simp length-take (omega arith) in
     rw (add-one, drop-cons (take m l) i d, getD-take)
@@ -79,29 +80,36 @@ pub replace-at : {A : Type 0} (fits : A → Bool) (y : A) (l : List A) → repla
 replace-at fits y [] = refl
 replace-at fits y (x ∷ xs) = go (fits x) (replace-at fits y xs)
   where
-    go : (b : Bool) → replaceFirst fits y xs ≡ set xs (firstIndex fits xs) y → cond b (y ∷ xs) (x ∷ replaceFirst fits y xs) ≡ set (x ∷ xs) (cond b 0 (suc (firstIndex fits xs))) y
+    go : (b : Bool) → replaceFirst fits y xs ≡ set xs (firstIndex fits xs) y
+        → cond b (y ∷ xs) (x ∷ replaceFirst fits y xs) ≡ set (x ∷ xs) (cond b 0 (suc (firstIndex fits xs))) y
     go true e = refl
     go false e = ap (_∷_ x) e
 
 -- the first element that fits, by its place
-pub first-at : {A B : Type 0} (fits : A → Bool) (hit : A → B) (none : B) (l : List A) (d : A) → firstOf fits hit none l ≡ cond (ltb (firstIndex fits l) (length l)) (hit (getD l (firstIndex fits l) d)) none
+pub first-at : {A B : Type 0} (fits : A → Bool) (hit : A → B) (none : B) (l : List A) (d : A)
+    → firstOf fits hit none l ≡ cond (ltb (firstIndex fits l) (length l)) (hit (getD l (firstIndex fits l) d)) none
 first-at fits hit none [] d = refl
 first-at fits hit none (x ∷ xs) d = go (fits x) (first-at fits hit none xs d)
   where
-    go : (b : Bool) → firstOf fits hit none xs ≡ cond (ltb (firstIndex fits xs) (length xs)) (hit (getD xs (firstIndex fits xs) d)) none → cond b (hit x) (firstOf fits hit none xs) ≡ cond (ltb (cond b 0 (suc (firstIndex fits xs))) (suc (length xs))) (hit (getD (x ∷ xs) (cond b 0 (suc (firstIndex fits xs))) d)) none
+    go : (b : Bool) → firstOf fits hit none xs ≡ cond (ltb (firstIndex fits xs) (length xs)) (hit (getD xs (firstIndex fits xs) d)) none
+        → cond b (hit x) (firstOf fits hit none xs) ≡ cond (ltb (cond b 0 (suc (firstIndex fits xs))) (suc (length xs))) (hit (getD (x ∷ xs) (cond b 0 (suc (firstIndex fits xs))) d)) none
     go true e = rw (lt-ltb 0 (suc (length xs)) (omega arith))
     go false e = rw (leb·suc-suc (suc (firstIndex fits xs)) (length xs)) e
 
-pub first-missing : {A B : Type 0} (fits : A → Bool) (hit : A → B) (none : B) (l : List A) → length l ≤ firstIndex fits l → firstOf fits hit none l ≡ none
+pub first-missing : {A B : Type 0} (fits : A → Bool) (hit : A → B) (none : B) (l : List A) → length l ≤ firstIndex fits l
+    → firstOf fits hit none l ≡ none
 first-missing fits hit none [] h = refl
 first-missing fits hit none (x ∷ xs) h = first-at fits hit none (x ∷ xs) x ∙ rw (le-ltb (firstIndex fits (x ∷ xs)) (length (x ∷ xs)) h)
 
 -- where there is one, it fits
-pub index-fits : {A : Type 0} (fits : A → Bool) (l : List A) (d : A) → firstIndex fits l < length l → fits (getD l (firstIndex fits l) d) ≡ true
+pub index-fits : {A : Type 0} (fits : A → Bool) (l : List A) (d : A) → firstIndex fits l < length l
+    → fits (getD l (firstIndex fits l) d) ≡ true
 index-fits fits [] d h = absurd (omega arith)
 index-fits fits (x ∷ xs) d h = go (fits x) refl h (index-fits fits xs d)
   where
-    go : (b : Bool) → fits x ≡ b → cond b 0 (suc (firstIndex fits xs)) < suc (length xs) → (firstIndex fits xs < length xs → fits (getD xs (firstIndex fits xs) d) ≡ true) → fits (getD (x ∷ xs) (cond b 0 (suc (firstIndex fits xs))) d) ≡ true
+    go : (b : Bool) → fits x ≡ b → cond b 0 (suc (firstIndex fits xs)) < suc (length xs)
+        → (firstIndex fits xs < length xs → fits (getD xs (firstIndex fits xs) d) ≡ true)
+        → fits (getD (x ∷ xs) (cond b 0 (suc (firstIndex fits xs))) d) ≡ true
     go true e k ih = e
     go false e k ih = ih (omega arith)
 
@@ -115,11 +123,13 @@ any-at fits [] = refl
 any-at fits (x ∷ xs) = first-at fits (λ y. true) false (x ∷ xs) x ∙ cond-self (ltb (firstIndex fits (x ∷ xs)) (length (x ∷ xs)))
 
 -- where `y` fits too, the list with `y` in place of its first element of one kind has an element of another kind where it had either
-pub replace-any : {A : Type 0} (fits other : A → Bool) (y : A) → other y ≡ true → (l : List A) → anyOf other (replaceFirst fits y l) ≡ anyOf fits l || anyOf other l
+pub replace-any : {A : Type 0} (fits other : A → Bool) (y : A) → other y ≡ true → (l : List A)
+    → anyOf other (replaceFirst fits y l) ≡ anyOf fits l || anyOf other l
 replace-any fits other y h [] = refl
 replace-any fits other y h (x ∷ xs) = go (fits x) (other x) refl (replace-any fits other y h xs)
   where
-    go : (b o : Bool) → other x ≡ o → anyOf other (replaceFirst fits y xs) ≡ anyOf fits xs || anyOf other xs → anyOf other (cond b (y ∷ xs) (x ∷ replaceFirst fits y xs)) ≡ cond b true (anyOf fits xs) || cond o true (anyOf other xs)
+    go : (b o : Bool) → other x ≡ o → anyOf other (replaceFirst fits y xs) ≡ anyOf fits xs || anyOf other xs
+        → anyOf other (cond b (y ∷ xs) (x ∷ replaceFirst fits y xs)) ≡ cond b true (anyOf fits xs) || cond o true (anyOf other xs)
     go true o e ih = rw h
     go false true e ih = rw (e, or-true (anyOf fits xs))
     go false false e ih = rw e ih
@@ -128,11 +138,13 @@ pub length-replace : {A : Type 0} (fits : A → Bool) (y : A) (l : List A) → l
 length-replace fits y l = rw (replace-at fits y l, length-set)
 
 -- an insertion keeps the other elements, in their order
-pub insert-at : {A : Type 0} (fits : A → Bool) (y : A) (l : List A) → insertBefore fits y l ≡ take (firstIndex fits l) l ++ (y ∷ drop (firstIndex fits l) l)
+pub insert-at : {A : Type 0} (fits : A → Bool) (y : A) (l : List A)
+    → insertBefore fits y l ≡ take (firstIndex fits l) l ++ (y ∷ drop (firstIndex fits l) l)
 insert-at fits y [] = refl
 insert-at fits y (x ∷ xs) = go (fits x) (insert-at fits y xs)
   where
-    go : (b : Bool) → insertBefore fits y xs ≡ take (firstIndex fits xs) xs ++ (y ∷ drop (firstIndex fits xs) xs) → cond b (y ∷ x ∷ xs) (x ∷ insertBefore fits y xs) ≡ take (cond b 0 (suc (firstIndex fits xs))) (x ∷ xs) ++ (y ∷ drop (cond b 0 (suc (firstIndex fits xs))) (x ∷ xs))
+    go : (b : Bool) → insertBefore fits y xs ≡ take (firstIndex fits xs) xs ++ (y ∷ drop (firstIndex fits xs) xs)
+        → cond b (y ∷ x ∷ xs) (x ∷ insertBefore fits y xs) ≡ take (cond b 0 (suc (firstIndex fits xs))) (x ∷ xs) ++ (y ∷ drop (cond b 0 (suc (firstIndex fits xs))) (x ∷ xs))
     go true e = refl
     go false e = ap (_∷_ x) e
 
@@ -140,7 +152,8 @@ pub length-insert : {A : Type 0} (fits : A → Bool) (y : A) (l : List A) → le
 length-insert fits y [] = refl
 length-insert fits y (x ∷ xs) = go (fits x) (length-insert fits y xs)
   where
-    go : (b : Bool) → length (insertBefore fits y xs) ≡ suc (length xs) → length (cond b (y ∷ x ∷ xs) (x ∷ insertBefore fits y xs)) ≡ suc (suc (length xs))
+    go : (b : Bool) → length (insertBefore fits y xs) ≡ suc (length xs)
+        → length (cond b (y ∷ x ∷ xs) (x ∷ insertBefore fits y xs)) ≡ suc (suc (length xs))
     go true e = refl
     go false e = ap suc e
 
@@ -153,21 +166,31 @@ index-le fits (x ∷ xs) = go (fits x) (index-le fits xs)
     go false h = omega arith
 
 -- to insert before the first that fits, among the first `n`, is to insert at its place
-pub insert-place : {A : Type 0} (fits : A → Bool) (y : A) (l : List A) (n : ℕ) → n ≤ length l → insertBefore fits y (take n l) ++ drop (n + 1) l ≡ insertAt l n (firstIndex fits (take n l)) y
+pub insert-place : {A : Type 0} (fits : A → Bool) (y : A) (l : List A) (n : ℕ) → n ≤ length l
+    → insertBefore fits y (take n l) ++ drop (n + 1) l ≡ insertAt l n (firstIndex fits (take n l)) y
 unfolding insertAt
 insert-place fits y l n h =
     let k : firstIndex fits (take n l) ≤ n = omega (arith, index-le fits (take n l), length-take-le n l h) in
     rw (insert-at fits y (take n l), take-take (firstIndex fits (take n l)) n l, append-assoc)
 
 -- to insert at place `i` is to store there and to insert what stood there one place further
-pub insert-step : {A : Type 0} (l : List A) (n i : ℕ) (x d : A) → i < n → n < length l → insertAt l n i x ≡ insertAt (set l i x) n (i + 1) (getD l i d)
+pub insert-step : {A : Type 0} (l : List A) (n i : ℕ) (x d : A) → i < n → n < length l
+    → insertAt l n i x ≡ insertAt (set l i x) n (i + 1) (getD l i d)
 unfolding insertAt
 insert-step l n i x d h k =
     let s : i < length l = omega arith in
     let m : n ≤ length l = omega arith in
     let t : i < suc i = omega arith in
     let u : i < n + 1 = omega arith in
-    rw (drop-step l n i d, drop-set-lt (n + 1) l i x, take-set-lt n l i x, add-one i, take-suc-set l i x, drop-set-lt (suc i) (take n l) i x, append-assoc)
+    rw (
+      drop-step l n i d,
+      drop-set-lt (n + 1) l i x,
+      take-set-lt n l i x,
+      add-one i,
+      take-suc-set l i x,
+      drop-set-lt (suc i) (take n l) i x,
+      append-assoc,
+    )
 
 -- to insert past the first `n` is to store there
 pub insert-last : {A : Type 0} (l : List A) (n : ℕ) (x : A) → n < length l → insertAt l n n x ≡ set l n x
@@ -180,21 +203,25 @@ module _ {A B : Type 0} (fits : A → Bool) (hit : A → B) (none : B) where
   none-first [] h = refl
   none-first (x ∷ xs) h = rw (h x (List·Memᴰ·head refl)) (none-first xs (λ y m. h y (List·Memᴰ·tail m)))
 
-  pub first-none : ((x : A) → fits x ≡ true → hit x ≡ none → ⊥) → (l : List A) → firstOf fits hit none l ≡ none → (x : A) → List·Memᴰ x l → fits x ≡ false
+  pub first-none : ((x : A) → fits x ≡ true → hit x ≡ none → ⊥) → (l : List A) → firstOf fits hit none l ≡ none → (x : A) → List·Memᴰ x l
+      → fits x ≡ false
   first-none differ [] e x m = absurd (List·Memᴰ·not-nil m)
   first-none differ (y ∷ ys) e x m = go (fits y) refl e (List·Memᴰ·cases-cons m) (λ e′ m′. first-none differ ys e′ x m′)
     where
-      go : (b : Bool) → fits y ≡ b → cond b (hit y) (firstOf fits hit none ys) ≡ none → (x ≡ y) ⊎ List·Memᴰ x ys → (firstOf fits hit none ys ≡ none → List·Memᴰ x ys → fits x ≡ false) → fits x ≡ false
+      go : (b : Bool) → fits y ≡ b → cond b (hit y) (firstOf fits hit none ys) ≡ none → (x ≡ y) ⊎ List·Memᴰ x ys
+          → (firstOf fits hit none ys ≡ none → List·Memᴰ x ys → fits x ≡ false) → fits x ≡ false
       go true f e′ w below = absurd (differ y f e′)
       go false f e′ (inl s) below = ap fits s ∙ f
       go false f e′ (inr m′) below = below e′ m′
 
 -- An insertion before the first key that is not below its own keeps an ascending list ascending.
 module _ {A : Type 0} (key : A → ℕ) (y : A) where
-  pub insert-ascending : (low : ℕ) (l : List A) → low ≤ key y → Ascending key low l → Ascending key low (insertBefore (λ x. leb (key y) (key x)) y l)
+  pub insert-ascending : (low : ℕ) (l : List A) → low ≤ key y → Ascending key low l
+      → Ascending key low (insertBefore (λ x. leb (key y) (key x)) y l)
   insert-ascending low [] h a = (h, tt)
   insert-ascending low (x ∷ xs) h a = go (leb (key y) (key x)) refl (λ k. insert-ascending (key x) xs k (a .1))
     where
-      go : (b : Bool) → leb (key y) (key x) ≡ b → (key x ≤ key y → Ascending key (key x) (insertBefore (λ z. leb (key y) (key z)) y xs)) → Ascending key low (cond b (y ∷ x ∷ xs) (x ∷ insertBefore (λ z. leb (key y) (key z)) y xs))
+      go : (b : Bool) → leb (key y) (key x) ≡ b → (key x ≤ key y → Ascending key (key x) (insertBefore (λ z. leb (key y) (key z)) y xs))
+          → Ascending key low (cond b (y ∷ x ∷ xs) (x ∷ insertBefore (λ z. leb (key y) (key z)) y xs))
       go true e below = (h, (leb-true (key y) (key x) e, a .1))
       go false e below = (a .0, below (omega (arith, leb-false (key y) (key x) e)))

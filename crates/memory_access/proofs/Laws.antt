@@ -136,6 +136,10 @@ unfolding decodeAccess
 decode-number iss fipa far = cond-map numberOf (isv iss) _ _
 
 -- the result fields are those of the syndrome, and zeros in a refusal
-pub decode-values : (iss : ℕ) (fipa : Fipa) (far : ℕ) → valuesOf (decodeAccess iss fipa far) ≡ cond (isv iss) (faultIpa fipa far .0 ∷ bitsOf (widthOf (sas iss)) ∷ kindNumber (kindOf (wnr iss)) ∷ srt iss ∷ flagNumber (sse iss) ∷ flagNumber (sf iss) ∷ []) (replicate 6 0)
+pub decode-values : (iss : ℕ) (fipa : Fipa) (far : ℕ)
+    → valuesOf (decodeAccess iss fipa far)
+    ≡ cond (isv iss)
+    (faultIpa fipa far .0 ∷ bitsOf (widthOf (sas iss)) ∷ kindNumber (kindOf (wnr iss)) ∷ srt iss ∷ flagNumber (sse iss) ∷ flagNumber (sf iss) ∷ [])
+    (replicate 6 0)
 unfolding decodeAccess
 decode-values iss fipa far = cond-map valuesOf (isv iss) _ _

@@ -14,16 +14,19 @@ counter-word offset counter true e = rw (eqb-true offset 16 e)
 counter-word offset counter false e = absurd (true≢false (sym e))
 
 -- a load of the counter word answers the counter as it was, and makes it grow by 1 modulo 2^64
-pub counter-loaded : (access : MemoryReadAccess) (counter : ℕ) → loadsCounter access ≡ true → readFilteredMmio access counter ≡ record { result = Value counter; counter = (counter + 1) % 2 ^ 64 }
+pub counter-loaded : (access : MemoryReadAccess) (counter : ℕ) → loadsCounter access ≡ true
+    → readFilteredMmio access counter ≡ record { result = Value counter; counter = (counter + 1) % 2 ^ 64 }
 unfolding readFilteredMmio loadsCounter counterAfter
 counter-loaded access counter e = rw (counter-word (access .offset) counter (is64 (access .width)) e, e)
 
-other-word : (offset counter counter′ : ℕ) (is64 : Bool) → (is64 && eqb offset 16) ≡ false → cond is64 (wordAt offset counter) Fault ≡ cond is64 (wordAt offset counter′) Fault
+other-word : (offset counter counter′ : ℕ) (is64 : Bool) → (is64 && eqb offset 16) ≡ false
+    → cond is64 (wordAt offset counter) Fault ≡ cond is64 (wordAt offset counter′) Fault
 unfolding wordAt
 other-word offset counter counter′ true e = rw e
 other-word offset counter counter′ false e = refl
 
 -- any other load answers the same at every counter, and leaves it
-pub counter-kept : (access : MemoryReadAccess) (counter counter′ : ℕ) → loadsCounter access ≡ false → (readFilteredMmio access counter .result ≡ readFilteredMmio access counter′ .result) × (readFilteredMmio access counter .counter ≡ counter)
+pub counter-kept : (access : MemoryReadAccess) (counter counter′ : ℕ) → loadsCounter access ≡ false
+    → (readFilteredMmio access counter .result ≡ readFilteredMmio access counter′ .result) × (readFilteredMmio access counter .counter ≡ counter)
 unfolding readFilteredMmio loadsCounter counterAfter
 counter-kept access counter counter′ e = (other-word (access .offset) counter counter′ (is64 (access .width)) e, rw e)

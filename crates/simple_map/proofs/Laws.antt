@@ -19,7 +19,11 @@ use Rattle.simple_map.specs.declared.SuspendCoreData.{SuspendCoreData}
 use Rattle.simple_map.specs.Map.{itemFits, itemValue, fits, isFree, taken, holdsKey, freePlace, without, hasRoom, valueOf, getItem, insertItem, insertNumber}
 
 -- the first item with the key, by its place
-pub get-at : (map : SimpleMap) (key : ℕ) → getItem map key ≡ cond (ltb (firstIndex (holdsKey key) (map .items)) (length (map .items))) (valueOf (getD (map .items) (firstIndex (holdsKey key) (map .items)) freePlace)) Nothing
+pub get-at : (map : SimpleMap) (key : ℕ)
+    → getItem map key
+    ≡ cond (ltb (firstIndex (holdsKey key) (map .items)) (length (map .items)))
+    (valueOf (getD (map .items) (firstIndex (holdsKey key) (map .items)) freePlace))
+    Nothing
 unfolding getItem
 get-at map key = first-at (holdsKey key) valueOf Nothing (map .items) freePlace
 
@@ -32,32 +36,44 @@ item-differs key None t e = true≢false (sym t)
 item-differs key (Some i) t e = let z : _≡_ {A = ℕ} 0 1 = cc in omega arith
 
 -- look-up answers none exactly where no place holds the key
-pub get-none : (map : SimpleMap) (key : ℕ) → getItem map key ≡ Nothing → (place : Place) → List·Memᴰ place (map .items) → holdsKey key place ≡ false
+pub get-none : (map : SimpleMap) (key : ℕ) → getItem map key ≡ Nothing → (place : Place) → List·Memᴰ place (map .items)
+    → holdsKey key place ≡ false
 unfolding getItem fits valueOf
 get-none map key e = first-none (holdsKey key) valueOf Nothing (λ place. item-differs key (place .item)) (map .items) e
 
-pub none-get : (map : SimpleMap) (key : ℕ) → ((place : Place) → List·Memᴰ place (map .items) → holdsKey key place ≡ false) → getItem map key ≡ Nothing
+pub none-get : (map : SimpleMap) (key : ℕ) → ((place : Place) → List·Memᴰ place (map .items) → holdsKey key place ≡ false)
+    → getItem map key ≡ Nothing
 unfolding getItem
 none-get map key h = none-first (holdsKey key) valueOf Nothing (map .items) h
 
--- there is room where a place is free once the first item with the key is removed
-pub room-at : (map : SimpleMap) (key : ℕ) → hasRoom map key ≡ ltb (firstIndex isFree (without key (map .items))) (length (map .items))
-unfolding hasRoom without fits
-room-at map key =
-    sym (replace-any (holdsKey key) isFree freePlace refl (map .items))
-    ∙ any-at isFree (without key (map .items))
-    ∙ ap (ltb (firstIndex isFree (without key (map .items)))) (length-replace (holdsKey key) freePlace (map .items))
-
--- to insert is to store at the first place that is free then
-pub insert-at : (map : SimpleMap) (key : ℕ) (value : SuspendCoreData) → insertItem map key value ≡ cond (ltb (firstIndex isFree (without key (map .items))) (length (map .items))) (record { answer = Accepted; map = record { items = set (without key (map .items)) (firstIndex isFree (without key (map .items))) (taken key value) } }) (record { answer = CapacityExceeded; map = map })
-unfolding insertItem
-insert-at map key value = rw (room-at map key, replace-at isFree (taken key value) (without key (map .items)))
-
--- 16 exactly where the key is not held and all places are taken; the map is then as it was
 module _ (map : SimpleMap) (key : ℕ) (value : SuspendCoreData) where
-  pub no-room-refused : hasRoom map key ≡ false → (insertNumber (insertItem map key value .answer) ≡ 16) × (insertItem map key value .map ≡ map)
+  -- the places once the first item with the key is removed, and the first that is free then
+  abbrev rest : List Place
+  rest = without key (map .items)
+
+  abbrev free-at : ℕ
+  free-at = firstIndex isFree rest
+
+  -- there is room where one is free
+  room-at : hasRoom map key ≡ ltb free-at (length (map .items))
+  unfolding hasRoom without fits
+  room-at =
+      sym (replace-any (holdsKey key) isFree freePlace refl (map .items))
+      ∙ any-at isFree rest
+      ∙ ap (ltb free-at) (length-replace (holdsKey key) freePlace (map .items))
+
+  -- to insert is to store there
+  pub insert-at : insertItem map key value
+      ≡ cond (ltb free-at (length (map .items)))
+      (record { answer = Accepted; map = record { items = set rest free-at (taken key value) } })
+      (record { answer = CapacityExceeded; map = map })
   unfolding insertItem
-  no-room-refused e = (rw e, rw e)
+  insert-at = rw (room-at, replace-at isFree (taken key value) rest)
+
+  -- 16 exactly where the key is not held and all places are taken; the map is then as it was
+  pub no-room-refused : hasRoom map key ≡ false → insertItem map key value ≡ record { answer = CapacityExceeded; map = map }
+  unfolding insertItem
+  no-room-refused e = rw e
 
   pub room-accepted : hasRoom map key ≡ true → insertNumber (insertItem map key value .answer) ≡ 0
   unfolding insertItem

@@ -1,5 +1,6 @@
 -- Ranges of guest addresses (document 01, "Range and region"; the numbers of its table of refusals). The page size is 4,096. Assumes nothing.
-use Prim.Native.Nat.{ℕ, _+_, _-_, _%_, _^_, min, max}
+use Prim.Native.Nat.{ℕ, _+_, _-_, _%_, _^_, _<_, min, max}
+use mathlib.Core.Path.{_≡_}
 use mathlib.Core.Bool.{Bool, not, cond}
 use mathlib.Core.List.{List}
 use lib.Dec.{ltb, leb, eqb}
@@ -28,6 +29,13 @@ validateRange base size =
     (refuseIf (not (pageMultiple size)) RangeSizeNotPageMultiple
     (refuseIf (leb (2 ^ 64) (base + size)) RangeEndOverflow
     Accepted)))
+
+-- the arguments of a call fit: none of 1 to 4 is met
+pub record ValidRange (base size : ℕ) : Type 0 where
+  pub base-aligned : base % 4096 ≡ 0
+  pub not-empty : size ≡ 0 → ⊥
+  pub whole-pages : size % 4096 ≡ 0
+  pub ends : base + size < 2 ^ 64
 
 -- "shares a byte": two ranges, each "from its stored base up to but not including its stored end", have a byte in common, as the later
 -- base lies below the earlier end

@@ -20,7 +20,8 @@ read-back c = toZ-ofZ w32 (c .args .error) (c .fits .error)
 is-negative : (c : tie.Then1) → Negative (c .before .args .error)
 is-negative c = negative (c .before .args .error) (c .before .fits .error) (rw (read-back (c .before)) at (c .if1 .taken))
 
-is-natural : (c : tie.Else1) → (c .before .args .error ≡ pos (signedWord (c .before .args .error))) × (signedWord (c .before .args .error) < 2 ^ 64)
+is-natural : (c : tie.Else1)
+    → (c .before .args .error ≡ pos (signedWord (c .before .args .error))) × (signedWord (c .before .args .error) < 2 ^ 64)
 is-natural c = natural (c .before .args .error) (c .before .fits .error) (rw (read-back (c .before)) at (c .if1 .left))
 
 sub-result : tie.Need-sub-result

@@ -43,7 +43,9 @@ loop-less c = omega arith
 
 loop-again : tie.Need-loop-again Inv-loop μ-loop
 unfolding withRegisters
-loop-again c = let k = registers-length (c .before .before) in (omega arith, write-next _ _ _ _ (c .before .loop .inv .1) (omega arith) (omega arith))
+loop-again c =
+    let k = registers-length (c .before .before) in
+    (omega arith, write-next _ _ _ _ (c .before .loop .inv .1) (omega arith) (omega arith))
 
 returns : tie.Need-returns Inv-loop μ-loop
 returns c = let e : c .before .loop .index ≡ c .before .before .args .count = omega arith in rw (← e) (c .before .loop .inv .1 .so-far)

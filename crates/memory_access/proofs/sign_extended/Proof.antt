@@ -16,13 +16,25 @@ sub-result : tie.Need-sub-result
 sub-result c = search needs
 
 add-result : tie.Need-add-result
-add-result c = let a = c .before .before .before .args in rw (c .before .low-bits .ensures, c .before .before .mask .ensures) (record { fits = sign-fits (bitsOf (a .width)) (a .value) (bits-range (a .width)) })
+add-result c =
+    let a = c .before .before .before .args in
+    rw (
+      c .before .low-bits .ensures,
+      c .before .before .mask .ensures,
+    ) (record { fits = sign-fits (bitsOf (a .width)) (a .value) (bits-range (a .width)) })
 
 returns : tie.Need-returns
-returns c = let a = c .before .before .before .args in rw (c .before .low-bits .ensures) (sign-clear (bitsOf (a .width)) (a .value) (bits-range (a .width)) (omega arith))
+returns c =
+    let a = c .before .before .before .args in
+    rw (c .before .low-bits .ensures) (sign-clear (bitsOf (a .width)) (a .value) (bits-range (a .width)) (omega arith))
 
 returns-2 : tie.Need-returns-2
-returns-2 c = let a = c .before .before .before .args in rw (c .before .low-bits .ensures, c .before .before .mask .ensures) (sign-set (bitsOf (a .width)) (a .value) (bits-range (a .width)) (omega arith))
+returns-2 c =
+    let a = c .before .before .before .args in
+    rw (
+      c .before .low-bits .ensures,
+      c .before .before .mask .ensures,
+    ) (sign-set (bitsOf (a .width)) (a .value) (bits-range (a .width)) (omega arith))
 
 pub sign-extended-spec : {M : Type 1} → statement M
 sign-extended-spec =

@@ -15,7 +15,13 @@ bits-requires c κs = search needs
 
 returns : tie.Need-returns
 unfolding readFilteredMmio loadsCounter
-returns c = rw (← c .before .bits .ensures, eq-eqb _ _ (c .if1 .taken), c .before .before .before .word-at .ensures, c .before .before .counter-after .ensures)
+returns c =
+    rw (
+      ← c .before .bits .ensures,
+      eq-eqb _ _ (c .if1 .taken),
+      c .before .before .before .word-at .ensures,
+      c .before .before .counter-after .ensures,
+    )
 
 returns-2 : tie.Need-returns-2
 unfolding readFilteredMmio loadsCounter counterAfter

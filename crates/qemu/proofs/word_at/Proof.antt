@@ -25,7 +25,15 @@ returns-5 c = rw (c .match .keys5)
 
 returns-6 : tie.Need-returns-6
 unfolding wordAt
-returns-6 c = let o = c .before .args .offset in rw (ne-eqb o 0 (c .match .rest .0 .0 .0 .0 .1), ne-eqb o 16 (c .match .rest .0 .0 .0 .1), ne-eqb o 24 (c .match .rest .0 .0 .1), ne-eqb o 32 (c .match .rest .0 .1), ne-eqb o 40 (c .match .rest .1))
+returns-6 c =
+    let o = c .before .args .offset in
+    rw (
+      ne-eqb o 0 (c .match .rest .0 .0 .0 .0 .1),
+      ne-eqb o 16 (c .match .rest .0 .0 .0 .1),
+      ne-eqb o 24 (c .match .rest .0 .0 .1),
+      ne-eqb o 32 (c .match .rest .0 .1),
+      ne-eqb o 40 (c .match .rest .1),
+    )
 
 pub word-at-spec : {M : Type 1} → statement M
 word-at-spec = tie.close (tie.spec returns returns-2 returns-3 returns-4 returns-5 returns-6)

@@ -17,11 +17,23 @@ returns-2 c = rw (← c .before .before .before .bits .ensures, eq-eqb _ _ (c .b
 
 returns-3 : tie.Need-returns-3
 unfolding writeFilteredMmio
-returns-3 c = rw (← c .before .before .before .before .before .bits .ensures, eq-eqb _ _ (c .before .before .before .before .if1 .left), eq-eqb _ _ (c .before .before .if2 .left), ne-eqb _ _ (c .if3 .taken))
+returns-3 c =
+    rw (
+      ← c .before .before .before .before .before .bits .ensures,
+      eq-eqb _ _ (c .before .before .before .before .if1 .left),
+      eq-eqb _ _ (c .before .before .if2 .left),
+      ne-eqb _ _ (c .if3 .taken),
+    )
 
 returns-4 : tie.Need-returns-4
 unfolding writeFilteredMmio
-returns-4 c = rw (← c .before .before .before .before .before .bits .ensures, eq-eqb _ _ (c .before .before .before .before .if1 .left), eq-eqb _ _ (c .before .before .if2 .left), eq-eqb _ _ (c .if3 .left))
+returns-4 c =
+    rw (
+      ← c .before .before .before .before .before .bits .ensures,
+      eq-eqb _ _ (c .before .before .before .before .if1 .left),
+      eq-eqb _ _ (c .before .before .if2 .left),
+      eq-eqb _ _ (c .if3 .left),
+    )
 
 pub write-filtered-mmio-spec : {M : Type 1} → statement M
 write-filtered-mmio-spec = tie.close (tie.spec bits-requires returns returns-2 returns-3 returns-4)

@@ -1,5 +1,5 @@
 use native.Mathlib.Omega.{arith}
-use Rattle.stage2_range.proofs.Laws.{found-base, find-here, find-nothing}
+use Rattle.stage2_range.proofs.Registry.{found-base, find-here, find-nothing}
 use borrow.Author.Needs.{needs}
 use Rattle.stage2_range.proofs.find_region.Statement.{statement}
 use Rattle.stage2_range.proofs.find_region.Tie as tie
@@ -23,7 +23,9 @@ returns : tie.Need-returns
 returns c = find-here _ _ (omega arith) _ _ _ (c .before .before .before .before .position .ensures) (omega arith)
 
 returns-2 : tie.Need-returns-2
-returns-2 c = let a = c .before .before .before .args in find-nothing (a .t1) (a .region-count) (omega arith) (a .ipa) (omega (arith, c .before .before .position .ensures))
+returns-2 c =
+    let a = c .before .before .before .args in
+    find-nothing (a .t1) (a .region-count) (omega arith) (a .ipa) (omega (arith, c .before .before .position .ensures))
 
 pub find-region-spec : {M : Type 1} → statement M
 find-region-spec =

@@ -34,7 +34,8 @@ page-ranges-overlap-requires : tie.Need-page-ranges-overlap-requires Inv-loop μ
 page-ranges-overlap-requires c κs = search needs
 
 returns : tie.Need-returns Inv-loop μ-loop
-returns c = first-here (c .before .before .before .before .loop .inv) (omega arith) (omega arith) _ (sym (c .before .page-ranges-overlap .ensures) ∙ c .if1 .taken)
+returns c =
+    first-here (c .before .before .before .before .loop .inv) (omega arith) (omega arith) _ (sym (c .before .page-ranges-overlap .ensures) ∙ c .if1 .taken)
 
 add-i : tie.Need-add-i Inv-loop μ-loop
 add-i c = omega arith
@@ -43,7 +44,8 @@ loop-less : tie.Need-loop-less Inv-loop μ-loop
 loop-less c = omega arith
 
 loop-again : tie.Need-loop-again Inv-loop μ-loop
-loop-again c = first-later (c .before .before .before .before .loop .inv) (omega arith) (omega arith) _ (sym (c .before .page-ranges-overlap .ensures) ∙ c .if1 .left)
+loop-again c =
+    first-later (c .before .before .before .before .loop .inv) (omega arith) (omega arith) _ (sym (c .before .page-ranges-overlap .ensures) ∙ c .if1 .left)
 
 returns-2 : tie.Need-returns-2 Inv-loop μ-loop
 returns-2 c = first-done (c .before .loop .inv) (omega arith)

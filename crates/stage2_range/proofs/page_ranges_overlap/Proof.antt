@@ -1,5 +1,5 @@
 use borrow.Author.Needs.{needs}
-use Rattle.stage2_range.proofs.Laws.{shares-none, shares-last}
+use Rattle.stage2_range.proofs.Ranges.{shares-none, shares-last}
 use Rattle.stage2_range.proofs.page_ranges_overlap.Statement.{statement}
 use Rattle.stage2_range.proofs.page_ranges_overlap.Tie as tie
 

@@ -37,7 +37,8 @@ loop-less : tie.Need-loop-less Inv-loop μ-loop
 loop-less c = omega arith
 
 loop-again : tie.Need-loop-again Inv-loop μ-loop
-loop-again c = (omega arith, simp length-set (omega arith), c .before .before .loop .inv .2 ∙ insert-step _ _ _ _ _ (omega arith) (omega arith))
+loop-again c =
+    (omega arith, simp length-set (omega arith), c .before .before .loop .inv .2 ∙ insert-step _ _ _ _ _ (omega arith) (omega arith))
 
 mul-out-2 : tie.Need-mul-out-2 Inv-loop μ-loop
 mul-out-2 c = omega arith
@@ -46,7 +47,9 @@ array-set-from-out-2 : tie.Need-array-set-from-out-2 Inv-loop μ-loop
 array-set-from-out-2 c = omega arith
 
 returns : tie.Need-returns Inv-loop μ-loop
-returns c = let e : c .before .loop .i ≡ c .before .before .args .n = omega arith in sym (c .before .loop .inv .2 ∙ rw e (insert-last _ _ _ (omega arith)))
+returns c =
+    let e : c .before .loop .i ≡ c .before .before .args .n = omega arith in
+    sym (c .before .loop .inv .2 ∙ rw e (insert-last _ _ _ (omega arith)))
 
 pub place-at-spec : {M : Type 1} → statement M
 place-at-spec =

@@ -33,7 +33,8 @@ region-fits-requires : tie.Need-region-fits-requires Inv-loop μ-loop
 region-fits-requires c κs = search needs
 
 returns : tie.Need-returns Inv-loop μ-loop
-returns c = index-here (c .before .before .before .before .loop .inv) (omega arith) (omega arith) _ (sym (c .before .region-fits .ensures) ∙ c .if1 .taken)
+returns c =
+    index-here (c .before .before .before .before .loop .inv) (omega arith) (omega arith) _ (sym (c .before .region-fits .ensures) ∙ c .if1 .taken)
 
 add-i : tie.Need-add-i Inv-loop μ-loop
 add-i c = omega arith
@@ -42,7 +43,8 @@ loop-less : tie.Need-loop-less Inv-loop μ-loop
 loop-less c = omega arith
 
 loop-again : tie.Need-loop-again Inv-loop μ-loop
-loop-again c = index-later (c .before .before .before .before .loop .inv) (omega arith) (omega arith) _ (sym (c .before .region-fits .ensures) ∙ c .if1 .left)
+loop-again c =
+    index-later (c .before .before .before .before .loop .inv) (omega arith) (omega arith) _ (sym (c .before .region-fits .ensures) ∙ c .if1 .left)
 
 returns-2 : tie.Need-returns-2 Inv-loop μ-loop
 returns-2 c = index-done (c .before .loop .inv) (omega arith)

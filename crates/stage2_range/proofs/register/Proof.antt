@@ -1,10 +1,10 @@
 use Rattle.stage2_range.specs.declared.Sought.the-variants.{BaseNotBelow}
-use Rattle.stage2_range.proofs.Laws.{place-within}
+use Rattle.stage2_range.proofs.Registry.{place-within}
 use mathlib.Core.Path.{sym, _∙_}
 use native.Mathlib.Omega.{arith}
 use borrow.Author.Tests.{le-leb, lt-leb}
 use Rattle.stage2_range.specs.Registry.{registerRegion, registerAnswer}
-use Rattle.stage2_range.proofs.Laws.{insert-region}
+use Rattle.stage2_range.proofs.Registry.{insert-region}
 use borrow.Author.Needs.{needs}
 use Rattle.stage2_range.proofs.register.Statement.{statement}
 use Rattle.stage2_range.proofs.register.Tie as tie
@@ -24,14 +24,23 @@ position-requires : tie.Need-position-requires
 position-requires c κs = search needs
 
 place-at-requires : tie.Need-place-at-requires
-place-at-requires c κs = let a = c .before .before .before .before .args in omega (arith, c .position .ensures, place-within (a .regions) (a .region-count) (omega arith) (BaseNotBelow (a .region .«base_ipa»)))
+place-at-requires c κs =
+    let a = c .before .before .before .before .args in
+    omega (arith, c .position .ensures, place-within (a .regions) (a .region-count) (omega arith) (BaseNotBelow (a .region .«base_ipa»)))
 
 add-t14 : tie.Need-add-t14
 add-t14 c = search needs
 
 returns-3 : tie.Need-returns-3
 unfolding registerRegion registerAnswer
-returns-3 c = simp (lt-leb _ _ (c .before .before .before .before .if1 .left), sym (c .before .before .before .overlaps-regions .ensures) ∙ c .before .before .if2 .left, insert-region (c .before .before .before .before .before .args .regions) (c .before .before .before .before .before .args .region-count) (c .before .before .before .before .before .args .region) (omega arith) (omega arith), c .place-at .ensures, c .before .position .ensures)
+returns-3 c =
+    simp (
+      lt-leb _ _ (c .before .before .before .before .if1 .left),
+      sym (c .before .before .before .overlaps-regions .ensures) ∙ c .before .before .if2 .left,
+      insert-region (c .before .before .before .before .before .args .regions) (c .before .before .before .before .before .args .region-count) (c .before .before .before .before .before .args .region) (omega arith) (omega arith),
+      c .place-at .ensures,
+      c .before .position .ensures,
+    )
 
 pub register-spec : {M : Type 1} → statement M
 register-spec =

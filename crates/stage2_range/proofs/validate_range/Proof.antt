@@ -23,11 +23,25 @@ sub-if4 c = search needs
 
 returns-4 : tie.Need-returns-4
 unfolding validateRange
-returns-4 c = let a = c .before .before .before .before .args in simp (eq-eqb _ _ (c .before .before .before .if1 .left), ne-eqb _ _ (c .before .before .if2 .left), eq-eqb _ _ (c .before .if3 .left), le-leb (2 ^ 64) (a .base-ipa + a .size) (omega arith))
+returns-4 c =
+    let a = c .before .before .before .before .args in
+    simp (
+      eq-eqb _ _ (c .before .before .before .if1 .left),
+      ne-eqb _ _ (c .before .before .if2 .left),
+      eq-eqb _ _ (c .before .if3 .left),
+      le-leb (2 ^ 64) (a .base-ipa + a .size) (omega arith),
+    )
 
 returns-5 : tie.Need-returns-5
 unfolding validateRange
-returns-5 c = let a = c .before .before .before .before .args in simp (eq-eqb _ _ (c .before .before .before .if1 .left), ne-eqb _ _ (c .before .before .if2 .left), eq-eqb _ _ (c .before .if3 .left), lt-leb (2 ^ 64) (a .base-ipa + a .size) (omega arith))
+returns-5 c =
+    let a = c .before .before .before .before .args in
+    simp (
+      eq-eqb _ _ (c .before .before .before .if1 .left),
+      ne-eqb _ _ (c .before .before .if2 .left),
+      eq-eqb _ _ (c .before .if3 .left),
+      lt-leb (2 ^ 64) (a .base-ipa + a .size) (omega arith),
+    )
 
 pub validate-range-spec : {M : Type 1} → statement M
 validate-range-spec = tie.close (tie.spec returns returns-2 returns-3 sub-if4 returns-4 returns-5)

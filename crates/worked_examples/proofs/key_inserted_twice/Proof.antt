@@ -20,7 +20,14 @@ entry-point-requires c κs = search needs
 
 returns : tie.Need-returns
 unfolding emptyMap insertItem hasRoom fits without getItem valueOf
-returns c = rw (c .entry-point .ensures, c .before .get .ensures, c .before .before .before .insert2 .ensures, c .before .before .before .before .before .insert .ensures, c .before .before .before .before .before .before .new .ensures)
+returns c =
+    rw (
+      c .entry-point .ensures,
+      c .before .get .ensures,
+      c .before .before .before .insert2 .ensures,
+      c .before .before .before .before .before .insert .ensures,
+      c .before .before .before .before .before .before .new .ensures,
+    )
 
 pub key-inserted-twice-spec : {M : Type 1} → statement M
 key-inserted-twice-spec =

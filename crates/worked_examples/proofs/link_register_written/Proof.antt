@@ -17,7 +17,13 @@ register-value-requires c κs = search needs
 
 returns : tie.Need-returns
 unfolding freshCore writeGpr withRegisters readGpr
-returns c = rw (c .register-value .ensures, c .before .read-gpr .ensures, c .before .before .before .write-gpr .ensures, c .before .before .before .before .fresh .ensures)
+returns c =
+    rw (
+      c .register-value .ensures,
+      c .before .read-gpr .ensures,
+      c .before .before .before .write-gpr .ensures,
+      c .before .before .before .before .fresh .ensures,
+    )
 
 pub link-register-written-spec : {M : Type 1} → statement M
 link-register-written-spec =

@@ -20,7 +20,13 @@ number-requires c κs = search needs
 
 returns : tie.Need-returns
 unfolding held sharesByte fits overlapsRegions registerAnswer registerRegion insertRegion twoPages
-returns c = rw (c .number .ensures, c .before .register .ensures, c .before .before .page .ensures, c .before .before .before .before .two-pages .ensures)
+returns c =
+    rw (
+      c .number .ensures,
+      c .before .register .ensures,
+      c .before .before .page .ensures,
+      c .before .before .before .before .two-pages .ensures,
+    )
 
 pub page-registered-again-spec : {M : Type 1} → statement M
 page-registered-again-spec =

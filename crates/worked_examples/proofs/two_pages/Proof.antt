@@ -17,7 +17,13 @@ register-requires-2 c κs = search needs
 
 returns : tie.Need-returns
 unfolding twoPages
-returns c = rw (c .register2 .ensures, c .before .page2 .ensures, c .before .before .before .register .ensures, c .before .before .before .before .page .ensures)
+returns c =
+    rw (
+      c .register2 .ensures,
+      c .before .page2 .ensures,
+      c .before .before .before .register .ensures,
+      c .before .before .before .before .page .ensures,
+    )
 
 pub two-pages-spec : {M : Type 1} → statement M
 two-pages-spec =

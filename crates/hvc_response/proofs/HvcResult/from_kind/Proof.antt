@@ -26,7 +26,8 @@ unfolding resultOfKind
 returns-5 c = rw (c .match .keys5, toZ-ofZ w32 (c .before .args .error) (c .before .fits .error))
 
 returns-6 : tie.Need-returns-6
-returns-6 c = unknown-kind _ _ _ (c .match .rest .0 .0 .0 .0 .1) (c .match .rest .0 .0 .0 .1) (c .match .rest .0 .0 .1) (c .match .rest .0 .1) (c .match .rest .1)
+returns-6 c =
+    unknown-kind _ _ _ (c .match .rest .0 .0 .0 .0 .1) (c .match .rest .0 .0 .0 .1) (c .match .rest .0 .0 .1) (c .match .rest .0 .1) (c .match .rest .1)
 
 pub from-kind-spec : {M : Type 1} → statement M
 from-kind-spec = tie.close (tie.spec returns returns-2 returns-3 returns-4 returns-5 returns-6)

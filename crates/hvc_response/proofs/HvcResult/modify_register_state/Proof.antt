@@ -52,7 +52,13 @@ write-response-registers-requires-5 c κs = search needs
 
 returns : tie.Need-returns
 unfolding response
-returns c = rw (c .write-response-registers .ensures, c .before .one-value .ensures, c .before .before .error-to-u64 .ensures, c .before .before .before .enum-told .given .1)
+returns c =
+    rw (
+      c .write-response-registers .ensures,
+      c .before .one-value .ensures,
+      c .before .before .error-to-u64 .ensures,
+      c .before .before .before .enum-told .given .1,
+    )
 
 returns-2 : tie.Need-returns-2
 unfolding response
@@ -68,7 +74,14 @@ returns-4 c = rw (c .write-response-registers4 .ensures, c .before .enum-told3 .
 
 returns-5 : tie.Need-returns-5
 unfolding response
-returns-5 c = rw (c .write-response-registers5 .ensures, c .before .one-value3 .ensures, c .before .before .error-to-u642 .ensures, c .before .before .before .before .self2 .given .1, toZ-ofZ w32 (c .before .before .before .before .self2 .given .0 .0) (record { sfits = c .before .before .before .known-told2 .given .0 .1 }))
+returns-5 c =
+    rw (
+      c .write-response-registers5 .ensures,
+      c .before .one-value3 .ensures,
+      c .before .before .error-to-u642 .ensures,
+      c .before .before .before .before .self2 .given .1,
+      toZ-ofZ w32 (c .before .before .before .before .self2 .given .0 .0) (record { sfits = c .before .before .before .known-told2 .given .0 .1 }),
+    )
 
 pub modify-register-state-spec : {M : Type 1} → statement M
 modify-register-state-spec =

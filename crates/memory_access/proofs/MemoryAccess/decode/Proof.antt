@@ -10,7 +10,11 @@ decode-valid-instruction-syndrome-requires c κs = search needs
 
 returns : tie.Need-returns
 unfolding decodeAccess
-returns c = rw (← c .before .decode-valid-instruction-syndrome .ensures, not-true (c .before .decode-valid-instruction-syndrome .result) (c .if1 .taken))
+returns c =
+    rw (
+      ← c .before .decode-valid-instruction-syndrome .ensures,
+      not-true (c .before .decode-valid-instruction-syndrome .result) (c .if1 .taken),
+    )
 
 decode-fault-ipa-requires : tie.Need-decode-fault-ipa-requires
 decode-fault-ipa-requires c κs = search needs
@@ -35,7 +39,8 @@ decode-memory-access-register-width-64-requires c κs = search needs
 returns-2 : tie.Need-returns-2
 unfolding decodeAccess
 returns-2 c = simp (
-  sym (c .before .before .before .before .before .before .before .decode-valid-instruction-syndrome .ensures) ∙ not-false (c .before .before .before .before .before .before .before .decode-valid-instruction-syndrome .result) (c .before .before .before .before .before .before .if1 .left),
+  sym (c .before .before .before .before .before .before .before .decode-valid-instruction-syndrome .ensures)
+      ∙ not-false (c .before .before .before .before .before .before .before .decode-valid-instruction-syndrome .result) (c .before .before .before .before .before .before .if1 .left),
   c .before .before .before .before .before .decode-fault-ipa .ensures,
   c .before .before .before .before .decode-memory-access-width .ensures,
   c .before .before .before .decode-memory-access-kind .ensures,

@@ -20,10 +20,21 @@ store-requires : tie.Need-store-requires
 store-requires c κs = search needs
 
 returns : tie.Need-returns
-returns c = let k = items-length (c .before .before .before .before .before) in rw (insert-at, k, ← c .before .before .before .without-key .ensures, ← c .before .before .position .ensures, lt-ltb _ _ (c .before .if1 .taken), c .store .ensures)
+returns c =
+    let k = items-length (c .before .before .before .before .before) in
+    rw (
+      insert-at,
+      k,
+      ← c .before .before .before .without-key .ensures,
+      ← c .before .before .position .ensures,
+      lt-ltb _ _ (c .before .if1 .taken),
+      c .store .ensures,
+    )
 
 returns-2 : tie.Need-returns-2
-returns-2 c = let k = items-length (c .before .before .before .before) in rw (insert-at, k, ← c .before .before .without-key .ensures, ← c .before .position .ensures, le-ltb _ _ (c .if1 .left))
+returns-2 c =
+    let k = items-length (c .before .before .before .before) in
+    rw (insert-at, k, ← c .before .before .without-key .ensures, ← c .before .position .ensures, le-ltb _ _ (c .if1 .left))
 
 pub insert-spec : {M : Type 1} → statement M
 insert-spec =

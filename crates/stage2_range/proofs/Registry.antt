@@ -1,0 +1,150 @@
+-- Laws on the searches of the regions and on the registry. Assumes nothing.
+use Prim.Native.Nat.{ℕ, _+_, _-_, _≤_, _<_, min}
+use mathlib.Core.Path.{_≡_, refl, sym, _∙_, ap}
+use mathlib.Core.Bool.{Bool, true, false, _&&_, true≢false}
+use mathlib.Core.List.{List, _∷_, _++_, List·Memᴰ}
+use native.Mathlib.Omega.{arith}
+use native.Mathlib.Numerals.{add-one}
+use borrow.Author.Tests.{lt-ltb, le-leb, lt-leb, leb-true}
+use lib.Dec.{ltb, leb}
+use lib.ListN.{length, take, drop, getD}
+use lib.Seq.{length-take-le, getD-take, take-at, drop-at}
+use Rattle.lists.specs.Lists.{held, firstIndex, insertBefore, insertAt, Ascending}
+use Rattle.lists.proofs.Laws.{length-held, held-within, any-at, first-at, first-missing, index-le, index-fits, first-none, none-first, length-insert, insert-at, insert-place, insert-ascending}
+use Rattle.memory_access.specs.declared.Ipa.{Ipa}
+use Rattle.stage2_range.specs.declared.Stage2Result.the-variants.{Accepted, Refused}
+use Rattle.stage2_range.specs.declared.MemoryAccessRegion.{MemoryAccessRegion}
+use Rattle.stage2_range.specs.declared.Sought.{Sought}
+use Rattle.stage2_range.specs.declared.Sought.the-variants.{Overlap, Address, BaseNotBelow}
+use Rattle.stage2_range.specs.declared.RegionFound.the-variants.{Nothing, Match}
+use Rattle.stage2_range.specs.Registry.{fits, overlapsRegions, findRegion, insertRegion, registerAnswer, registerRegion}
+use Rattle.stage2_range.specs.Ranges.{sharesByte}
+use Rattle.stage2_range.specs.declared.Stage2ConfigError.the-variants.{TooManyMemoryAccessHandlerRegions, MemoryAccessHandlerRangeOverlap}
+
+both-left : (a b : Bool) → (a && b) ≡ true → a ≡ true
+both-left true b h = refl
+both-left false b h = h
+
+-- a region that has an address starts at or below it
+base-below : (ipa : ℕ) (r : MemoryAccessRegion) → fits (Address ipa) r ≡ true → r .«base_ipa» ≤ ipa
+unfolding fits
+base-below ipa r t = leb-true (r .«base_ipa») ipa (both-left (leb (r .«base_ipa») ipa) (ltb ipa (r .«end_ipa»)) t)
+
+-- The searches of the regions, by the place of the first that fits.
+module _ (regions : List MemoryAccessRegion) (count : ℕ) (full : length regions ≡ 16) where
+  held-length : length (held 16 count regions) ≡ min count 16
+  held-length = length-held 16 count regions (omega arith)
+
+  pub place-within : (sought : Sought) → firstIndex (fits sought) (held 16 count regions) ≤ min count 16
+  place-within sought = omega (arith, index-le (fits sought) (held 16 count regions), held-length)
+
+  pub overlaps-at : (base end : ℕ)
+      → overlapsRegions (held 16 count regions) base end ≡ ltb (firstIndex (fits (Overlap base end)) (held 16 count regions)) (min count 16)
+  unfolding overlapsRegions
+  overlaps-at base end =
+      any-at (fits (Overlap base end)) (held 16 count regions)
+      ∙ ap (ltb (firstIndex (fits (Overlap base end)) (held 16 count regions))) held-length
+
+  module _ (ipa : Ipa) (d : MemoryAccessRegion) where
+    held-at : (k : ℕ) → k < min count 16 → getD (held 16 count regions) k d ≡ getD regions k d
+    unfolding held
+    held-at k h = getD-take (min count 16) regions k d h
+
+    pub found-base : (k : ℕ) → k ≡ firstIndex (fits (Address (ipa .0))) (held 16 count regions) → k < min count 16
+        → getD regions k d .«base_ipa» ≤ ipa .0
+    found-base k e h =
+        let t : fits (Address (ipa .0)) (getD (held 16 count regions) k d) ≡ true = rw e (index-fits (fits (Address (ipa .0))) (held 16 count regions) d (omega (arith, held-length))) in
+        base-below (ipa .0) (getD regions k d) (rw (held-at k h) at t)
+
+    pub find-here : (k : ℕ) → k ≡ firstIndex (fits (Address (ipa .0))) (held 16 count regions) → k < min count 16
+        → Match (record { region = getD regions k d; offset = ipa .0 - getD regions k d .«base_ipa» }) ≡ findRegion (held 16 count regions) ipa
+    unfolding findRegion
+    find-here k e h =
+        let n : k < length (held 16 count regions) = omega (arith, held-length) in
+        let f = first-at (fits (Address (ipa .0))) (λ r. Match (record { region = r; offset = ipa .0 - r .«base_ipa» })) Nothing (held 16 count regions) d in
+        sym (f ∙ rw (← e, lt-ltb k (length (held 16 count regions)) n, held-at k h))
+
+  pub find-nothing : (ipa : Ipa) → min count 16 ≤ firstIndex (fits (Address (ipa .0))) (held 16 count regions)
+      → Nothing ≡ findRegion (held 16 count regions) ipa
+  unfolding findRegion
+  find-nothing ipa h =
+      sym (first-missing (fits (Address (ipa .0))) (λ r. Match (record { region = r; offset = ipa .0 - r .«base_ipa» })) Nothing (held 16 count regions) (omega (arith, held-length)))
+
+-- a region goes to the place of the first whose base is not below its own
+pub insert-region : (regions : List MemoryAccessRegion) (n : ℕ) (region : MemoryAccessRegion) → n ≤ 16 → n ≤ length regions
+    → insertRegion regions n region ≡ insertAt regions n (firstIndex (fits (BaseNotBelow (region .«base_ipa»))) (held 16 n regions)) region
+unfolding insertRegion
+insert-region regions n region h k =
+    rw (held-within 16 n regions h) (insert-place (fits (BaseNotBelow (region .«base_ipa»))) region regions n k)
+
+-- A search answers none exactly where no region has the address, and no overlap exactly where none shares a byte.
+differs : (r : MemoryAccessRegion) (offset : ℕ) → Match (record { region = r; offset = offset }) ≡ Nothing → ⊥
+differs r offset e = let z : _≡_ {A = ℕ} 0 1 = cc in omega arith
+
+pub find-none : (regions : List MemoryAccessRegion) (ipa : Ipa) → findRegion regions ipa ≡ Nothing → (r : MemoryAccessRegion)
+    → List·Memᴰ r regions → fits (Address (ipa .0)) r ≡ false
+unfolding findRegion
+find-none regions ipa e = first-none (fits (Address (ipa .0))) _ Nothing (λ r t. differs r (ipa .0 - r .«base_ipa»)) regions e
+
+pub none-find : (regions : List MemoryAccessRegion) (ipa : Ipa)
+    → ((r : MemoryAccessRegion) → List·Memᴰ r regions → fits (Address (ipa .0)) r ≡ false) → findRegion regions ipa ≡ Nothing
+unfolding findRegion
+none-find regions ipa h = none-first (fits (Address (ipa .0))) _ Nothing regions h
+
+pub regions-apart : (regions : List MemoryAccessRegion) (base end : ℕ) → overlapsRegions regions base end ≡ false → (r : MemoryAccessRegion)
+    → List·Memᴰ r regions → sharesByte (r .«base_ipa») (r .«end_ipa») base end ≡ false
+unfolding overlapsRegions fits
+regions-apart regions base end e = first-none (fits (Overlap base end)) (λ r. true) false (λ r t. true≢false) regions e
+
+pub apart-regions : (regions : List MemoryAccessRegion) (base end : ℕ)
+    → ((r : MemoryAccessRegion) → List·Memᴰ r regions → sharesByte (r .«base_ipa») (r .«end_ipa») base end ≡ false)
+    → overlapsRegions regions base end ≡ false
+unfolding overlapsRegions fits
+apart-regions regions base end h = none-first (fits (Overlap base end)) (λ r. true) false regions h
+
+-- The insertion: among the first n + 1 places stand the region and, in their order, the first n; the others are as they were.
+module _ (regions : List MemoryAccessRegion) (n : ℕ) (region : MemoryAccessRegion) (room : n < length regions) where
+  -- what the region is inserted before, and where
+  abbrev not-below : MemoryAccessRegion → Bool
+  not-below = fits (BaseNotBelow (region .«base_ipa»))
+
+  abbrev point : ℕ
+  point = firstIndex not-below (take n regions)
+
+  inserted-length : length (insertBefore not-below region (take n regions)) ≡ n + 1
+  inserted-length = rw (length-insert, length-take-le n regions (omega arith)) (sym (add-one n))
+
+  pub insert-front : take (n + 1) (insertRegion regions n region) ≡ insertBefore not-below region (take n regions)
+  unfolding insertRegion
+  insert-front = take-at (insertBefore not-below region (take n regions)) (drop (n + 1) regions) (n + 1) inserted-length
+
+  pub insert-rest : drop (n + 1) (insertRegion regions n region) ≡ drop (n + 1) regions
+  unfolding insertRegion
+  insert-rest = drop-at (insertBefore not-below region (take n regions)) (drop (n + 1) regions) (n + 1) inserted-length
+
+  pub insert-keeps-order : take (n + 1) (insertRegion regions n region) ≡ take point (take n regions) ++ (region ∷ drop point (take n regions))
+  insert-keeps-order = insert-front ∙ insert-at not-below region (take n regions)
+
+  pub insert-keeps-ascending : Ascending (λ r. r .«base_ipa») 0 (take n regions)
+      → Ascending (λ r. r .«base_ipa») 0 (take (n + 1) (insertRegion regions n region))
+  unfolding fits
+  insert-keeps-ascending a = rw insert-front (insert-ascending (λ r. r .«base_ipa») region 0 (take n regions) (omega arith) a)
+
+-- "8, 9", first met wins; a refusal leaves the registry as it was
+module _ (regions : List MemoryAccessRegion) (n : ℕ) (region : MemoryAccessRegion) where
+  pub full-refused : 16 ≤ n
+      → registerRegion regions n region
+      ≡ record { answer = Refused TooManyMemoryAccessHandlerRegions; regions = regions; «region_count» = n }
+  unfolding registerRegion registerAnswer
+  full-refused h = rw (le-leb 16 n h)
+
+  pub overlap-refused : n < 16 → overlapsRegions (held 16 n regions) (region .«base_ipa») (region .«end_ipa») ≡ true
+      → registerRegion regions n region
+      ≡ record { answer = Refused MemoryAccessHandlerRangeOverlap; regions = regions; «region_count» = n }
+  unfolding registerRegion registerAnswer
+  overlap-refused h o = rw (lt-leb 16 n h, o)
+
+  pub apart-registered : n < 16 → overlapsRegions (held 16 n regions) (region .«base_ipa») (region .«end_ipa») ≡ false
+      → registerRegion regions n region ≡ record { answer = Accepted; regions = insertRegion regions n region; «region_count» = n + 1 }
+  unfolding registerRegion registerAnswer
+  apart-registered h o = rw (lt-leb 16 n h, o)
