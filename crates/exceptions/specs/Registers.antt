@@ -40,11 +40,12 @@ writeGpr core index value =
     (cond (eqb index 31) (record { answer = Accepted; core = core })
     (record { answer = GuestRegisterWriteError; core = core }))
 
--- the numbers of the answers in document 01's table: 17 "index above 31"
+-- the number of a read's answer in document 01's table: 17 "index above 31"
 abbrev pub readNumber : GprRead → ℕ
 readNumber (Value v) = 0
 readNumber NoSuchRegister = 17
 
+-- the number of a write's answer
 abbrev pub writeNumber : GprWrite → ℕ
 writeNumber Accepted = 0
 writeNumber GuestRegisterWriteError = 17

@@ -6,7 +6,8 @@ ghost use lib.ListN.{take, replicate};
 ghost use Rattle.hvc_response.specs.Response.{signedWord, withFirst, response, resultOfKind, kindNumber};
 use exceptions::Core;
 
-// The result of a forwarded call (document 01: a reply): RITM's `HvcResult` and `HvcResponse` in one. The four or eighteen values of a success stand beside it.
+// The result of a forwarded call (document 01: a reply): RITM's `HvcResult` and `HvcResponse` in one. The four or eighteen values of a
+// success stand beside it.
 pub enum HvcResult {
     Unhandled,
     Value(u64),
@@ -92,6 +93,7 @@ fn write_response_registers(core: Core, results: [u64; 18], count: usize) -> Cor
     next
 }
 
+// The error, sign-extended. A cast keeps a number's value, so a negative one goes by its complement.
 fn error_to_u64(error: i32) -> u64
     ensures { λ r. ⌜ r ≡ signedWord error ⌝ }
 {

@@ -3,15 +3,16 @@ use mathlib.Core.Path.{_≡_, refl, ap, ap₂, sym, _∙_}
 use mathlib.Core.Bool.{Bool, true, false, not, cond}
 use mathlib.Core.List.{[], _∷_}
 use Prim.Native.Nat.{ℕ, zero, suc, _+_, _*_, _/_, _%_, _^_, _-_, _<_, _≤_}
-use native.Mathlib.Nat.{zero-mul, one-mul, suc-mul, mod-lt, pow-suc}
+use native.Mathlib.Nat.{zero-mul, one-mul, mod-lt, mod-eq-of-lt, pow-suc}
 use native.Mathlib.Omega.{arith}
-use borrow.Author.Tests.{ne-eqb}
+use borrow.Author.Tests.{ne-eqb, le-leb, lt-leb, leb-true, leb-false}
 use lib.Bits.{bitAnd, bitOr, and-mask, and-high, or-shifted}
-use lib.Dec.{eqb, lit<, lit≤}
+use lib.Dec.{eqb, leb, lit<, lit≤}
+use lib.IntN.{pos, negsuc}
 use lib.ListN.{replicate}
 use lib.Pow.{high-ones, pow-pos, pow-mono, mod-pow-add}
 use Rattle.memory_access.specs.Syndrome.{bitsAt, bitAt, isv, sas, sse, srt, sf, wnr, widthOf, bitsOf, kindOf, faultIpa, decodeAccess, numberOf, kindNumber, flagNumber, valuesOf}
-use Rattle.memory_access.specs.Transfer.{lowBits, signExtend}
+use Rattle.memory_access.specs.Transfer.{lowBits, signExtend, twosComplement}
 use Rattle.memory_access.specs.declared.Fipa.{Fipa}
 use Rattle.memory_access.specs.declared.MemoryAccessWidth.{MemoryAccessWidth}
 use Rattle.memory_access.specs.declared.MemoryAccessWidth.the-variants.{U8, U16, U32, U64}
@@ -69,44 +70,67 @@ twice (suc k) h =
     let e : suc k - 1 ≡ k = omega arith in
     rw e (pow-suc 2 k)
 
--- a number of one bit above `half`, by that bit
-top-clear : (b half r : ℕ) → r < half → b * half + r < half → eqb b 1 ≡ false
-top-clear zero half r h k = refl
-top-clear (suc b) half r h k = absurd (omega (arith, suc-mul b half))
+top : (b half r : ℕ) → b < 2 → r < half → eqb b 1 ≡ leb half (b * half + r)
+top zero half r l h = sym (lt-leb half (0 * half + r) (omega (arith, zero-mul half)))
+top (suc zero) half r l h = sym (le-leb half (1 * half + r) (omega (arith, one-mul half)))
+top (suc (suc b)) half r l h = absurd (omega arith)
 
-top-set : (b half r : ℕ) → b < 2 → r < half → half ≤ b * half + r → eqb b 1 ≡ true
-top-set zero half r l h k = absurd (omega (arith, zero-mul half))
-top-set (suc zero) half r l h k = refl
-top-set (suc (suc b)) half r l h k = absurd (omega arith)
+-- bit w - 1 is set in the upper half of the numbers of `w` bits
+top-bit : (w v : ℕ) → 1 ≤ w → bitAt v (w - 1) ≡ leb (2 ^ (w - 1)) (lowBits w v)
+unfolding bitAt lowBits
+top-bit w v l =
+    let e : 1 + (w - 1) ≡ w = omega arith in
+    let parts : v % 2 ^ w ≡ (v / 2 ^ (w - 1) % 2) * 2 ^ (w - 1) + v % 2 ^ (w - 1) = ap (λ (n : ℕ). v % 2 ^ n) (sym e) ∙ mod-pow-add v 1 (w - 1) in
+    top (v / 2 ^ (w - 1) % 2) (2 ^ (w - 1)) (v % 2 ^ (w - 1)) (mod-lt (v / 2 ^ (w - 1)) (lit< tt)) (mod-lt v (pow-pos (w - 1)))
+    ∙ ap (leb (2 ^ (w - 1))) (sym parts)
 
--- Sign extension of the low `w` bits of `v`, by their mask: the sign bit is clear in the lower half of the numbers below 2^w.
+-- the two's complement of a number of `w` bits
+complement : (w n : ℕ) → 1 ≤ w → n < 2 ^ w → twosComplement w n ≡ cond (leb (2 ^ (w - 1)) n) (negsuc (2 ^ w - suc n)) (pos n)
+unfolding twosComplement lowBits
+complement w n l h = rw (top-bit w n l, mod-eq-of-lt h)
+
+-- Sign extension of the low `w` bits of `v`, by their mask.
 module _ (w v : ℕ) (range : (1 ≤ w) × (w ≤ 64)) where
-  -- the low `w` bits are bit w - 1 and the bits below it
-  top-and-rest : lowBits w v ≡ (v / 2 ^ (w - 1) % 2) * 2 ^ (w - 1) + v % 2 ^ (w - 1)
-  unfolding lowBits
-  top-and-rest =
-      let e : 1 + (w - 1) ≡ w = omega arith in
-      ap (λ (n : ℕ). v % 2 ^ n) (sym e) ∙ mod-pow-add v 1 (w - 1)
-
   low-fits : lowBits w v < 2 ^ w
   unfolding lowBits
   low-fits = mod-lt v (pow-pos w)
 
   pub sign-clear : lowBits w v ≤ (2 ^ w - 1) / 2 → lowBits w v ≡ signExtend w v
-  unfolding signExtend bitAt
-  sign-clear h =
-      let small : lowBits w v < 2 ^ (w - 1) = omega (arith, twice w (range .0), pow-pos (w - 1)) in
-      rw (top-clear (v / 2 ^ (w - 1) % 2) (2 ^ (w - 1)) (v % 2 ^ (w - 1)) (mod-lt v (pow-pos (w - 1))) (rw top-and-rest at small))
+  unfolding signExtend
+  sign-clear h = rw (top-bit w v (range .0), lt-leb (2 ^ (w - 1)) (lowBits w v) (omega (arith, twice w (range .0), pow-pos (w - 1))))
 
   pub sign-fits : lowBits w v + (2 ^ 64 - 1 - (2 ^ w - 1)) < 2 ^ 64
   sign-fits = omega (arith, pow-mono {i = w} {j = 64} (range .1), low-fits)
 
   pub sign-set : (2 ^ w - 1) / 2 < lowBits w v → lowBits w v + (2 ^ 64 - 1 - (2 ^ w - 1)) ≡ signExtend w v
-  unfolding signExtend bitAt
+  unfolding signExtend
   sign-set h =
-      let large : 2 ^ (w - 1) ≤ lowBits w v = omega (arith, twice w (range .0), pow-pos (w - 1)) in
-      rw (top-set (v / 2 ^ (w - 1) % 2) (2 ^ (w - 1)) (v % 2 ^ (w - 1)) (mod-lt (v / 2 ^ (w - 1)) (lit< tt)) (mod-lt v (pow-pos (w - 1))) (rw top-and-rest at large))
+      rw (top-bit w v (range .0), le-leb (2 ^ (w - 1)) (lowBits w v) (omega (arith, twice w (range .0), pow-pos (w - 1))))
       (omega (arith, sign-fits, pow-pos w, pow-mono {i = w} {j = 64} (range .1)))
+
+  -- the extended bits are the same two's complement number
+  pub sign-kept : twosComplement 64 (signExtend w v) ≡ twosComplement w (lowBits w v)
+  sign-kept = rw (complement w (lowBits w v) (range .0) low-fits) (go (leb (2 ^ (w - 1)) (lowBits w v)) refl)
+    where
+      small : 2 ^ (w - 1) ≤ 2 ^ 63
+      small = pow-mono {i = w - 1} {j = 63} (omega arith)
+
+      word : ℕ
+      word = lowBits w v + (2 ^ 64 - 1 - (2 ^ w - 1))
+
+      go : (b : Bool) → leb (2 ^ (w - 1)) (lowBits w v) ≡ b
+          → twosComplement 64 (signExtend w v) ≡ cond b (negsuc (2 ^ w - suc (lowBits w v))) (pos (lowBits w v))
+      go true e =
+          let h : 2 ^ (w - 1) ≤ lowBits w v = leb-true (2 ^ (w - 1)) (lowBits w v) e in
+          let d = twice w (range .0) in
+          let p = pow-pos (w - 1) in
+          let m : 2 ^ 64 - suc word ≡ 2 ^ w - suc (lowBits w v) = omega (arith, low-fits, small) in
+          rw (← sign-set (omega arith), complement 64 word (lit≤ tt) sign-fits, le-leb (2 ^ 63) word (omega (arith, low-fits, small)), m)
+      go false e =
+          let h : lowBits w v < 2 ^ (w - 1) = leb-false (2 ^ (w - 1)) (lowBits w v) e in
+          let d = twice w (range .0) in
+          let f : lowBits w v < 2 ^ 64 = omega (arith, small) in
+          rw (← sign-clear (omega arith), complement 64 (lowBits w v) (lit≤ tt) f, lt-leb (2 ^ 63) (lowBits w v) (omega (arith, small)))
 
 same-either-way : (t : Bool) (n : ℕ) → n < 2 ^ 64 → cond t ((n + (2 ^ 64 - 2 ^ 64)) % 2 ^ 64) n ≡ n
 same-either-way true n h = omega arith

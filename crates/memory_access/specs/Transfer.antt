@@ -1,6 +1,7 @@
 -- The value that an access moves between its register and memory (document 01, "Access"). Assumes nothing.
 use mathlib.Core.Bool.{Bool, cond}
-use Prim.Native.Nat.{ℕ, _+_, _-_, _%_, _^_}
+use Prim.Native.Nat.{ℕ, suc, _+_, _-_, _%_, _^_}
+use lib.IntN.{ℤ, pos, negsuc}
 use Rattle.memory_access.specs.declared.MemoryAccess.{MemoryAccess}
 use Rattle.memory_access.specs.Syndrome.{bitAt, bitsOf}
 
@@ -11,6 +12,10 @@ lowBits w v = v % 2 ^ w
 -- "those bits are read as a two's complement number and extended to 64": the low `w` bits, less 2^w where bit w - 1 is set, modulo 2^64
 unfoldable pub signExtend : ℕ → ℕ → ℕ
 signExtend w v = cond (bitAt v (w - 1)) ((lowBits w v + (2 ^ 64 - 2 ^ w)) % 2 ^ 64) (lowBits w v)
+
+-- the number that `n`, of `w` bits, is in two's complement; `negsuc k` is -(k + 1)
+unfoldable pub twosComplement : ℕ → ℕ → ℤ
+twosComplement w n = cond (bitAt n (w - 1)) (negsuc (2 ^ w - suc n)) (pos n)
 
 -- "A load result keeps the low access-width bits", extended with SSE set
 unfoldable pub loaded : ℕ → Bool → ℕ → ℕ

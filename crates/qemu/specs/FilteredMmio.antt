@@ -19,6 +19,7 @@ pub record Entry : Type 0 where
   pub offset : ℕ
   pub word : ℕ
 
+-- this word stands at this offset
 abbrev pub at : ℕ → ℕ → Entry
 at offset word = record { offset = offset; word = word }
 

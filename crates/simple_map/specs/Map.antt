@@ -68,6 +68,7 @@ without key items = replaceFirst (holdsKey key) freePlace items
 unfoldable pub getItem : SimpleMap → ℕ → Lookup
 getItem map key = firstOf (holdsKey key) valueOf Nothing (map .items)
 
+-- the same for remove, and the map without that entry
 unfoldable pub removeItem : SimpleMap → ℕ → Removed
 removeItem map key = record { removed = getItem map key; map = record { items = without key (map .items) } }
 

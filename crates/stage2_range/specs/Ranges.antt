@@ -66,10 +66,12 @@ errorNumber AllowedRangeOverlapsMemoryAccessHandler = 7
 errorNumber TooManyMemoryAccessHandlerRegions = 8
 errorNumber MemoryAccessHandlerRangeOverlap = 9
 
+-- the number of an answer: 0 where it is accepted
 abbrev pub resultNumber : Stage2Result → ℕ
 resultNumber Accepted = 0
 resultNumber (Refused e) = errorNumber e
 
+-- the number of a rounding's answer
 abbrev pub alignedNumber : AlignedUp → ℕ
 alignedNumber (Address a) = 0
 alignedNumber NoPageAbove = 18

@@ -53,6 +53,7 @@ abbrev pub registeredBy : Stage2Result → List MemoryAccessRegion → ℕ → M
 registeredBy Accepted regions n region = record { answer = Accepted; regions = insertRegion regions n region; «region_count» = n + 1 }
 registeredBy (Refused e) regions n region = record { answer = Refused e; regions = regions; «region_count» = n }
 
+-- the registry after a call
 unfoldable pub registerRegion : List MemoryAccessRegion → ℕ → MemoryAccessRegion → Registered
 registerRegion regions n region = registeredBy (registerAnswer regions n region) regions n region
 
