@@ -34,10 +34,11 @@ add-t14 c = search needs
 returns-3 : tie.Need-returns-3
 unfolding registerRegion registerAnswer
 returns-3 c =
+    let a = c .before .before .before .before .before .args in
     simp (
       lt-leb _ _ (c .before .before .before .before .if1 .left),
       sym (c .before .before .before .overlaps-regions .ensures) ∙ c .before .before .if2 .left,
-      insert-region (c .before .before .before .before .before .args .regions) (c .before .before .before .before .before .args .region-count) (c .before .before .before .before .before .args .region) (omega arith) (omega arith),
+      insert-region (a .regions) (a .region-count) (a .region) (omega arith) (omega arith),
       c .place-at .ensures,
       c .before .position .ensures,
     )

@@ -1,6 +1,7 @@
-use mathlib.Core.Path.{sym, _∙_}
+use mathlib.Core.Path.{_≡_, sym, _∙_}
+use mathlib.Core.Bool.{true}
 use borrow.Author.Tests.{not-true, not-false}
-use Rattle.memory_access.specs.Syndrome.{decodeAccess}
+use Rattle.memory_access.specs.Syndrome.{isv, decodeAccess}
 use borrow.Author.Needs.{needs}
 use Rattle.memory_access.proofs.MemoryAccess.decode.Statement.{statement}
 use Rattle.memory_access.proofs.MemoryAccess.decode.Tie as tie
@@ -36,18 +37,24 @@ decode-memory-access-register-width-64-requires :
     tie.Need-decode-memory-access-register-width-64-requires
 decode-memory-access-register-width-64-requires c κs = search needs
 
+-- past the test the syndrome is valid
+valid : (c : tie.Else1) → isv (c .before .before .args .iss) ≡ true
+valid c =
+    let v = c .before .decode-valid-instruction-syndrome in
+    sym (v .ensures) ∙ not-false (v .result) (c .if1 .left)
+
 returns-2 : tie.Need-returns-2
 unfolding decodeAccess
-returns-2 c = simp (
-  sym (c .before .before .before .before .before .before .before .decode-valid-instruction-syndrome .ensures)
-      ∙ not-false (c .before .before .before .before .before .before .before .decode-valid-instruction-syndrome .result) (c .before .before .before .before .before .before .if1 .left),
-  c .before .before .before .before .before .decode-fault-ipa .ensures,
-  c .before .before .before .before .decode-memory-access-width .ensures,
-  c .before .before .before .decode-memory-access-kind .ensures,
-  c .before .before .decode-memory-access-register-index .ensures,
-  c .before .decode-memory-access-sign-extend .ensures,
-  c .decode-memory-access-register-width-64 .ensures,
-)
+returns-2 c =
+    simp (
+      valid (c .before .before .before .before .before .before),
+      c .before .before .before .before .before .decode-fault-ipa .ensures,
+      c .before .before .before .before .decode-memory-access-width .ensures,
+      c .before .before .before .decode-memory-access-kind .ensures,
+      c .before .before .decode-memory-access-register-index .ensures,
+      c .before .decode-memory-access-sign-extend .ensures,
+      c .decode-memory-access-register-width-64 .ensures,
+    )
 
 pub decode-spec : {M : Type 1} → statement M
 decode-spec =
