@@ -28,6 +28,7 @@ pub held-within : {A : Type 0} (limit count : ℕ) (l : List A) → count ≤ li
 unfolding held
 held-within limit count l h = let e : min count limit ≡ count = omega arith in rw e
 
+-- how many are held
 pub length-held : {A : Type 0} (limit count : ℕ) (l : List A) → limit ≤ length l → length (held limit count l) ≡ min count limit
 unfolding held
 length-held limit count l h = length-take-le (min count limit) l (omega arith)
@@ -96,6 +97,7 @@ first-at fits hit none (x ∷ xs) d = go (fits x) (first-at fits hit none xs d)
     go true e = rw (lt-ltb 0 (suc (length xs)) (omega arith))
     go false e = rw (leb·suc-suc (suc (firstIndex fits xs)) (length xs)) e
 
+-- at the length there is none
 pub first-missing : {A B : Type 0} (fits : A → Bool) (hit : A → B) (none : B) (l : List A) → length l ≤ firstIndex fits l
     → firstOf fits hit none l ≡ none
 first-missing fits hit none [] h = refl
@@ -113,7 +115,7 @@ index-fits fits (x ∷ xs) d h = go (fits x) refl h (index-fits fits xs d)
     go true e k ih = e
     go false e k ih = ih (omega arith)
 
-cond-self : (b : Bool) → cond b true false ≡ b
+pub cond-self : (b : Bool) → cond b true false ≡ b
 cond-self true = refl
 cond-self false = refl
 
@@ -134,6 +136,7 @@ replace-any fits other y h (x ∷ xs) = go (fits x) (other x) refl (replace-any 
     go false true e ih = rw (e, or-true (anyOf fits xs))
     go false false e ih = rw e ih
 
+-- to replace an element keeps the length
 pub length-replace : {A : Type 0} (fits : A → Bool) (y : A) (l : List A) → length (replaceFirst fits y l) ≡ length l
 length-replace fits y l = rw (replace-at fits y l, length-set)
 
@@ -148,6 +151,7 @@ insert-at fits y (x ∷ xs) = go (fits x) (insert-at fits y xs)
     go true e = refl
     go false e = ap (_∷_ x) e
 
+-- to insert an element makes the list one longer
 pub length-insert : {A : Type 0} (fits : A → Bool) (y : A) (l : List A) → length (insertBefore fits y l) ≡ suc (length l)
 length-insert fits y [] = refl
 length-insert fits y (x ∷ xs) = go (fits x) (length-insert fits y xs)
@@ -157,6 +161,7 @@ length-insert fits y (x ∷ xs) = go (fits x) (length-insert fits y xs)
     go true e = refl
     go false e = ap suc e
 
+-- the place is at most the length
 pub index-le : {A : Type 0} (fits : A → Bool) (l : List A) → firstIndex fits l ≤ length l
 index-le fits [] = omega arith
 index-le fits (x ∷ xs) = go (fits x) (index-le fits xs)

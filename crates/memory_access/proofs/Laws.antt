@@ -38,7 +38,7 @@ one-bit x k = ap (bitAnd x) (sym (high-ones 1 k ∙ one-mul (2 ^ k))) ∙ and-hi
 
 -- `(x & (1 << k)) != 0`
 pub bit-test : (x k : ℕ) → not (eqb (bitAnd x (2 ^ k)) 0) ≡ bitAt x k
-unfolding bitAt
+unfolding bitAt bitsAt
 bit-test x k =
     ap (λ (n : ℕ). not (eqb n 0)) (one-bit x k)
     ∙ flag (x / 2 ^ k % 2) (2 ^ k) (mod-lt (x / 2 ^ k) (lit< tt)) (pow-pos k)
@@ -77,7 +77,7 @@ top (suc (suc b)) half r l h = absurd (omega arith)
 
 -- bit w - 1 is set in the upper half of the numbers of `w` bits
 top-bit : (w v : ℕ) → 1 ≤ w → bitAt v (w - 1) ≡ leb (2 ^ (w - 1)) (lowBits w v)
-unfolding bitAt lowBits
+unfolding bitAt bitsAt lowBits
 top-bit w v l =
     let e : 1 + (w - 1) ≡ w = omega arith in
     let parts : v % 2 ^ w ≡ (v / 2 ^ (w - 1) % 2) * 2 ^ (w - 1) + v % 2 ^ (w - 1) = ap (λ (n : ℕ). v % 2 ^ n) (sym e) ∙ mod-pow-add v 1 (w - 1) in

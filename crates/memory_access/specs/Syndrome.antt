@@ -20,7 +20,7 @@ bitsAt x k n = x / 2 ^ k % 2 ^ n
 
 -- bit `k` of `x` is set
 unfoldable pub bitAt : ℕ → ℕ → Bool
-bitAt x k = eqb (x / 2 ^ k % 2) 1
+bitAt x k = eqb (bitsAt x k 1) 1
 
 -- "ISV is bit 24": the syndrome is valid
 abbrev pub isv : ℕ → Bool

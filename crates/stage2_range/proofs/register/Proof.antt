@@ -1,9 +1,11 @@
 use Rattle.stage2_range.specs.declared.Sought.the-variants.{BaseNotBelow}
 use Rattle.stage2_range.proofs.Registry.{place-within}
-use mathlib.Core.Path.{sym, _∙_}
+use mathlib.Core.Path.{_≡_, sym, _∙_}
+use mathlib.Core.Bool.{false}
+use Rattle.lists.specs.Lists.{held}
 use native.Mathlib.Omega.{arith}
 use borrow.Author.Tests.{le-leb, lt-leb}
-use Rattle.stage2_range.specs.Registry.{registerRegion, registerAnswer}
+use Rattle.stage2_range.specs.Registry.{overlapsRegions, registerRegion, registerAnswer}
 use Rattle.stage2_range.proofs.Registry.{insert-region}
 use borrow.Author.Needs.{needs}
 use Rattle.stage2_range.proofs.register.Statement.{statement}
@@ -19,6 +21,12 @@ overlaps-regions-requires c κs = search needs
 returns-2 : tie.Need-returns-2
 unfolding registerRegion registerAnswer
 returns-2 c = simp (lt-leb _ _ (c .before .before .if1 .left), sym (c .before .overlaps-regions .ensures) ∙ c .if2 .taken)
+
+-- past the second test no region that is held shares a byte
+apart : (c : tie.Else2) →
+    let a = c .before .before .before .args in
+    overlapsRegions (held 16 (a .region-count) (a .regions)) (a .region .«base_ipa») (a .region .«end_ipa») ≡ false
+apart c = sym (c .before .overlaps-regions .ensures) ∙ c .if2 .left
 
 position-requires : tie.Need-position-requires
 position-requires c κs = search needs
@@ -37,7 +45,7 @@ returns-3 c =
     let a = c .before .before .before .before .before .args in
     simp (
       lt-leb _ _ (c .before .before .before .before .if1 .left),
-      sym (c .before .before .before .overlaps-regions .ensures) ∙ c .before .before .if2 .left,
+      apart (c .before .before),
       insert-region (a .regions) (a .region-count) (a .region) (omega arith) (omega arith),
       c .place-at .ensures,
       c .before .position .ensures,

@@ -1,4 +1,4 @@
-use Rattle.memory_access.specs.Syndrome.{decodeAccess, bitAt}
+use Rattle.memory_access.specs.Syndrome.{decodeAccess, bitAt, bitsAt}
 use borrow.Author.Needs.{needs}
 use Rattle.worked_examples.proofs.decode_with_all_but_isv.Statement.{statement}
 use Rattle.worked_examples.proofs.decode_with_all_but_isv.Tie as tie
@@ -10,7 +10,7 @@ number-requires : tie.Need-number-requires
 number-requires c κs = search needs
 
 returns : tie.Need-returns
-unfolding decodeAccess bitAt
+unfolding decodeAccess bitAt bitsAt
 returns c = rw (c .number .ensures, c .before .decode .ensures)
 
 pub decode-with-all-but-isv-spec : {M : Type 1} → statement M

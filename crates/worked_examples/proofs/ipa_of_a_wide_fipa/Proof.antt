@@ -1,4 +1,4 @@
-use Rattle.memory_access.specs.Syndrome.{decodeAccess, bitAt, faultIpa}
+use Rattle.memory_access.specs.Syndrome.{decodeAccess, bitAt, bitsAt, faultIpa}
 use borrow.Author.Needs.{needs}
 use Rattle.worked_examples.proofs.ipa_of_a_wide_fipa.Statement.{statement}
 use Rattle.worked_examples.proofs.ipa_of_a_wide_fipa.Tie as tie
@@ -10,7 +10,7 @@ decoded-ipa-requires : tie.Need-decoded-ipa-requires
 decoded-ipa-requires c κs = search needs
 
 returns : tie.Need-returns
-unfolding decodeAccess bitAt faultIpa
+unfolding decodeAccess bitAt bitsAt faultIpa
 returns c = rw (c .decoded-ipa .ensures, c .before .decode .ensures)
 
 pub ipa-of-a-wide-fipa-spec : {M : Type 1} → statement M
