@@ -6,13 +6,14 @@ use mathlib.Core.List.{List, List·Memᴰ}
 use native.Mathlib.Omega.{arith}
 use borrow.Author.Tests.{lt-ltb, le-ltb, lt-leb, eq-eqb, ne-eqb, ltb-true, ltb-false, leb-false, eqb-true, eqb-false, not-false}
 use lib.Dec.{ltb, leb, eqb}
+use Rattle.lists.specs.Refusals.{firstMet}
 use Rattle.lists.proofs.Laws.{first-none, none-first}
 use Rattle.memory_access.proofs.Laws.{cond-map}
 use Rattle.stage2_range.specs.declared.Stage2ConfigError.{Stage2ConfigError}
 use Rattle.stage2_range.specs.declared.Stage2Result.{Stage2Result}
 use Rattle.stage2_range.specs.declared.Stage2Result.the-variants.{Accepted}
 use Rattle.stage2_range.specs.declared.Stage2Range.{Stage2Range}
-use Rattle.stage2_range.specs.Ranges.{refuseIf, pageMultiple, validateRange, ValidRange, resultNumber, sharesByte, overlapsAllowed, alignDown, alignUp, alignedNumber}
+use Rattle.stage2_range.specs.Ranges.{refuseIf, pageMultiple, rangeCases, validateRange, ValidRange, resultNumber, sharesByte, overlapsAllowed, alignDown, alignUp, alignedNumber}
 
 -- two tests that imply each other are equal
 ltb-ext : (a b c d : ℕ) → (a < b → c < d) → (c < d → a < b) → ltb a b ≡ ltb c d
@@ -101,9 +102,7 @@ valid-accepted base size v =
     )
 
 -- "1 to 4 in order", first met wins
-pub validate-number : (base size : ℕ)
-    → resultNumber (validateRange base size)
-    ≡ cond (not (pageMultiple base)) 1 (cond (eqb size 0) 2 (cond (not (pageMultiple size)) 3 (cond (leb (2 ^ 64) (base + size)) 4 0)))
+pub validate-number : (base size : ℕ) → resultNumber (validateRange base size) ≡ firstMet (rangeCases base size)
 unfolding validateRange
 validate-number base size =
     cond-map resultNumber (not (pageMultiple base)) _ _

@@ -2,11 +2,12 @@
 use Prim.Native.Nat.{ℕ, _+_, _-_, _%_, _^_, _<_, min, max}
 use mathlib.Core.Path.{_≡_}
 use mathlib.Core.Bool.{Bool, not, cond}
-use mathlib.Core.List.{List}
+use mathlib.Core.List.{List, [], _∷_}
 use lib.Dec.{ltb, leb, eqb}
 use Rattle.lists.specs.Lists.{anyOf}
+use Rattle.lists.specs.Refusals.{Case, case}
 use Rattle.stage2_range.specs.declared.Stage2ConfigError.{Stage2ConfigError}
-use Rattle.stage2_range.specs.declared.Stage2ConfigError.the-variants.{RangeBaseNotPageAligned, EmptyRange, RangeSizeNotPageMultiple, RangeEndOverflow, TooManyAllowedRanges, AllowedRangeOverlap, AllowedRangeOverlapsMemoryAccessHandler, TooManyMemoryAccessHandlerRegions, MemoryAccessHandlerRangeOverlap}
+use Rattle.stage2_range.specs.declared.Stage2ConfigError.the-variants.{RangeBaseNotPageAligned, EmptyRange, RangeSizeNotPageMultiple, RangeEndOverflow, TooManyAllowedRanges, AllowedRangeOverlap, AllowedRangeOverlapsMemoryAccessHandler, TooManyMemoryAccessHandlerRegions, MemoryAccessHandlerRangeOverlap, UnknownMemoryHandler}
 use Rattle.stage2_range.specs.declared.Stage2Result.{Stage2Result}
 use Rattle.stage2_range.specs.declared.Stage2Result.the-variants.{Accepted, Refused}
 use Rattle.stage2_range.specs.declared.Stage2Range.{Stage2Range}
@@ -29,6 +30,15 @@ validateRange base size =
     (refuseIf (not (pageMultiple size)) RangeSizeNotPageMultiple
     (refuseIf (leb (2 ^ 64) (base + size)) RangeEndOverflow
     Accepted)))
+
+-- the same four, as lines of the table
+abbrev pub rangeCases : ℕ → ℕ → List Case
+rangeCases base size =
+    case 1 (not (pageMultiple base))
+    ∷ case 2 (eqb size 0)
+    ∷ case 3 (not (pageMultiple size))
+    ∷ case 4 (leb (2 ^ 64) (base + size))
+    ∷ []
 
 -- the arguments of a call fit: none of 1 to 4 is met
 pub record ValidRange (base size : ℕ) : Type 0 where
@@ -65,6 +75,7 @@ errorNumber AllowedRangeOverlap = 6
 errorNumber AllowedRangeOverlapsMemoryAccessHandler = 7
 errorNumber TooManyMemoryAccessHandlerRegions = 8
 errorNumber MemoryAccessHandlerRangeOverlap = 9
+errorNumber UnknownMemoryHandler = 20
 
 -- the number of an answer: 0 where it is accepted
 abbrev pub resultNumber : Stage2Result → ℕ

@@ -13,7 +13,7 @@ pub const MAX_MEMORY_ACCESS_HANDLERS: u64 = 16;
 // The most allowed ranges that a policy holds.
 pub const MAX_ALLOWED_RANGES: u64 = 32;
 
-// Why a range is refused.
+// Why a range is refused. (The last is ours: handlers are named by numbers, where RITM has functions.)
 pub enum Stage2ConfigError {
     RangeBaseNotPageAligned,
     EmptyRange,
@@ -24,6 +24,7 @@ pub enum Stage2ConfigError {
     AllowedRangeOverlapsMemoryAccessHandler,
     TooManyMemoryAccessHandlerRegions,
     MemoryAccessHandlerRangeOverlap,
+    UnknownMemoryHandler,
 }
 
 // RITM's `Result<(), Stage2ConfigError>`.
@@ -124,6 +125,7 @@ impl Stage2ConfigError {
             Stage2ConfigError::AllowedRangeOverlapsMemoryAccessHandler => 7,
             Stage2ConfigError::TooManyMemoryAccessHandlerRegions => 8,
             Stage2ConfigError::MemoryAccessHandlerRangeOverlap => 9,
+            Stage2ConfigError::UnknownMemoryHandler => 20,
         }
     }
 }

@@ -1,0 +1,54 @@
+use Rattle.stage2_range.specs.Registry.{registerAnswer, registeredBy, registerRegion}
+use mathlib.Core.Path.{_≡_, refl, sym, _∙_}
+use Rattle.stage2_range.specs.declared.Stage2Result.{Stage2Result}
+use Rattle.stage2_range.specs.declared.Stage2Result.the-variants.{Accepted, Refused}
+use Rattle.stage2_range.specs.declared.MemoryAccessRegion.{MemoryAccessRegion}
+use Rattle.stage2.specs.declared.Policy.{Policy}
+use Rattle.stage2.specs.declared.Built.{Built}
+use Rattle.stage2.specs.Policy.{builtBy, handleAnswerFor, withRegion}
+use borrow.Author.Needs.{needs}
+use Rattle.stage2.proofs.handle_valid.Statement.{statement}
+use Rattle.stage2.proofs.handle_valid.Tie as tie
+
+-- what the registry answers is what is built of it
+registered-built : (answer : Stage2Result) (p : Policy) (r : MemoryAccessRegion) →
+    let registered = registeredBy answer (p .regions) (p .«region_count») r in
+    _≡_ {A = Built}
+    (record {
+      answer = registered .answer;
+      policy = record {
+        allowed = p .allowed;
+        «allowed_count» = p .«allowed_count»;
+        regions = registered .regions;
+        «region_count» = registered .«region_count»;
+      };
+    })
+    (builtBy answer p (withRegion p r))
+unfolding withRegion
+registered-built Accepted p r = refl
+registered-built (Refused error) p r = refl
+
+overlaps-allowed-requires : tie.Need-overlaps-allowed-requires
+overlaps-allowed-requires c κs = search needs
+
+refuse-requires : tie.Need-refuse-requires
+refuse-requires c κs = search needs
+
+returns : tie.Need-returns
+unfolding handleAnswerFor
+returns c = rw (c .refuse .ensures, sym (c .before .before .overlaps-allowed .ensures) ∙ c .before .if1 .taken)
+
+register-requires : tie.Need-register-requires
+register-requires c κs = search needs
+
+returns-2 : tie.Need-returns-2
+unfolding handleAnswerFor registerRegion
+returns-2 c =
+    let a = c .before .before .before .before .before .before .args in
+    rw (c .before .register .ensures, sym (c .before .before .before .overlaps-allowed .ensures) ∙ c .before .before .if1 .left)
+    (registered-built (registerAnswer (a .policy .regions) (a .policy .«region_count») (a .region)) (a .policy) (a .region))
+
+pub handle-valid-spec : {M : Type 1} → statement M
+handle-valid-spec =
+    tie.close
+    (tie.spec overlaps-allowed-requires refuse-requires returns register-requires returns-2)

@@ -1,0 +1,137 @@
+-- The stage-2 policy and the calls that build it (document 01, "Range and region" and its table of refusals). Policies handed in may hold
+-- anything. Assumes nothing.
+use Prim.Native.Nat.{ℕ, _+_}
+use mathlib.Core.Bool.{Bool, not, _&&_}
+use mathlib.Core.List.{List, [], _∷_, _++_}
+use lib.Dec.{ltb, leb}
+use lib.ListN.{length, getD, set, replicate}
+use Rattle.lists.specs.Lists.{held}
+use Rattle.lists.specs.Refusals.{Case, case}
+use Rattle.stage2_range.specs.declared.Stage2ConfigError.the-variants.{TooManyAllowedRanges, AllowedRangeOverlap, AllowedRangeOverlapsMemoryAccessHandler, UnknownMemoryHandler}
+use Rattle.stage2_range.specs.declared.Stage2Result.{Stage2Result}
+use Rattle.stage2_range.specs.declared.Stage2Result.the-variants.{Accepted, Refused}
+use Rattle.stage2_range.specs.declared.Stage2Range.{Stage2Range}
+use Rattle.stage2_range.specs.declared.MemoryHandler.{MemoryHandler}
+use Rattle.stage2_range.specs.declared.MemoryHandler.the-variants.{Absent, FilteredMmio}
+use Rattle.stage2_range.specs.declared.MemoryAccessRegion.{MemoryAccessRegion}
+use Rattle.stage2_range.specs.Ranges.{refuseIf, validateRange, overlapsAllowed, rangeCases}
+use Rattle.stage2_range.specs.Registry.{overlapsRegions, insertRegion, registerAnswer}
+use Rattle.stage2.specs.declared.Policy.{Policy}
+use Rattle.stage2.specs.declared.Built.{Built}
+
+-- a handler (document 01: a half) by its number: "0 absent, 1 the filtered page"
+abbrev pub handlers : List MemoryHandler
+handlers = Absent ∷ FilteredMmio ∷ []
+
+abbrev pub handlerOf : ℕ → MemoryHandler
+handlerOf number = getD handlers number Absent
+
+-- 20 is met where "a half is neither 0 nor 1"
+abbrev pub isHandler : ℕ → Bool
+isHandler number = ltb number (length handlers)
+
+-- the range, and the region, that a call asks for: "end = base + size"
+abbrev pub rangeOf : ℕ → ℕ → ℕ → Stage2Range
+rangeOf base size attributes = record { «base_ipa» = base; size = size; «end_ipa» = base + size; attributes = attributes }
+
+abbrev pub regionOf : ℕ → ℕ → ℕ → ℕ → MemoryAccessRegion
+regionOf base size read write = record {
+  «base_ipa» = base;
+  size = size;
+  handler = record { read = handlerOf read; write = handlerOf write };
+  «end_ipa» = base + size;
+}
+
+-- "Fresh means no range, no region"
+unfoldable pub freshPolicy : Policy
+freshPolicy = record {
+  allowed = replicate 32 (rangeOf 0 0 0);
+  «allowed_count» = 0;
+  regions = replicate 16 (regionOf 0 0 0 0);
+  «region_count» = 0;
+}
+
+-- "At most 32 allowed ranges, in order of arrival": those held
+abbrev pub allowedHeld : Policy → List Stage2Range
+allowedHeld p = held 32 (p .«allowed_count») (p .allowed)
+
+-- "and 16 regions, ascending by base": those held
+abbrev pub regionsHeld : Policy → List MemoryAccessRegion
+regionsHeld p = held 16 (p .«region_count») (p .regions)
+
+-- the first refusal, or else what follows it
+abbrev pub after : Stage2Result → Stage2Result → Stage2Result
+after Accepted rest = rest
+after (Refused error) rest = Refused error
+
+-- "A refusal returns its number .., and all state is as before"
+abbrev pub builtBy : Stage2Result → Policy → Policy → Built
+builtBy Accepted before next = record { answer = Accepted; policy = next }
+builtBy (Refused error) before next = record { answer = Refused error; policy = before }
+
+-- refusals 5 to 7: "32 allowed", "shares a byte with an allowed range", "allowing, shares a byte with a region"
+unfoldable pub allowAnswerFor : Policy → Stage2Range → Stage2Result
+allowAnswerFor p r =
+    refuseIf (leb 32 (p .«allowed_count»)) TooManyAllowedRanges
+    (refuseIf (overlapsAllowed (allowedHeld p) (r .«base_ipa») (r .«end_ipa»)) AllowedRangeOverlap
+    (refuseIf (overlapsRegions (regionsHeld p) (r .«base_ipa») (r .«end_ipa»)) AllowedRangeOverlapsMemoryAccessHandler
+    Accepted))
+
+-- an allowed range stands after those that came before it
+unfoldable pub withAllowed : Policy → Stage2Range → Policy
+withAllowed p r = record {
+  allowed = set (p .allowed) (p .«allowed_count») r;
+  «allowed_count» = p .«allowed_count» + 1;
+  regions = p .regions;
+  «region_count» = p .«region_count»;
+}
+
+-- `allow_range`: "allow 1 to 7 in order"
+unfoldable pub allowRange : Policy → ℕ → ℕ → ℕ → Built
+allowRange p base size attributes =
+    let range = rangeOf base size attributes in
+    builtBy (after (validateRange base size) (allowAnswerFor p range)) p (withAllowed p range)
+
+-- refusals 6, 8 and 9: "shares a byte with an allowed range", "16 regions", "handling, shares a byte with a region"
+unfoldable pub handleAnswerFor : Policy → MemoryAccessRegion → Stage2Result
+handleAnswerFor p r =
+    refuseIf (overlapsAllowed (allowedHeld p) (r .«base_ipa») (r .«end_ipa»)) AllowedRangeOverlap
+    (registerAnswer (p .regions) (p .«region_count») r)
+
+-- a region stands at its place by base
+unfoldable pub withRegion : Policy → MemoryAccessRegion → Policy
+withRegion p r = record {
+  allowed = p .allowed;
+  «allowed_count» = p .«allowed_count»;
+  regions = insertRegion (p .regions) (p .«region_count») r;
+  «region_count» = p .«region_count» + 1;
+}
+
+-- `handle_range`: "handle 20, 1 to 4, 6, 8, 9"
+unfoldable pub handleRange : Policy → ℕ → ℕ → ℕ → ℕ → Built
+handleRange p base size read write =
+    let region = regionOf base size read write in
+    builtBy
+    (refuseIf (not (isHandler read && isHandler write)) UnknownMemoryHandler
+    (after (validateRange base size) (handleAnswerFor p region)))
+    p
+    (withRegion p region)
+
+-- the lines of the table that `allow_range` meets, in its order
+abbrev pub allowCases : Policy → ℕ → ℕ → List Case
+allowCases p base size =
+    rangeCases base size
+    ++ (case 5 (leb 32 (p .«allowed_count»))
+    ∷ case 6 (overlapsAllowed (allowedHeld p) base (base + size))
+    ∷ case 7 (overlapsRegions (regionsHeld p) base (base + size))
+    ∷ [])
+
+-- the lines of the table that `handle_range` meets, in its order
+abbrev pub handleCases : Policy → ℕ → ℕ → ℕ → ℕ → List Case
+handleCases p base size read write =
+    case 20 (not (isHandler read && isHandler write))
+    ∷ (rangeCases base size
+    ++ (case 6 (overlapsAllowed (allowedHeld p) base (base + size))
+    ∷ case 8 (leb 16 (p .«region_count»))
+    ∷ case 9 (overlapsRegions (regionsHeld p) base (base + size))
+    ∷ []))

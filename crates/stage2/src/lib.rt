@@ -1,0 +1,190 @@
+// RITM's src/stage2.rs, the builder: which ranges the guest may use directly, and which have their accesses handled.
+ghost use mathlib.Core.Path.{_≡_};
+ghost use Rattle.stage2_range.specs.declared.Stage2Result.the-variants.{Refused};
+ghost use Rattle.stage2_range.specs.Registry.{findRegion};
+ghost use Rattle.stage2.specs.Policy.{handlerOf, freshPolicy, regionsHeld, builtBy, allowAnswerFor, withAllowed, allowRange, handleAnswerFor, withRegion, handleRange};
+use memory_access::Ipa;
+use stage2_range::MAX_ALLOWED_RANGES;
+use stage2_range::MemoryAccessHandler;
+use stage2_range::MemoryAccessRegion;
+use stage2_range::MemoryHandler;
+use stage2_range::RegionFound;
+use stage2_range::Stage2ConfigError;
+use stage2_range::Stage2Range;
+use stage2_range::Stage2Result;
+
+// RITM's `Stage2Builder` without its page table: the allowed ranges in order of arrival, the handled regions ascending by base.
+pub struct Policy {
+    pub allowed: [Stage2Range; 32],
+    pub allowed_count: u64,
+    pub regions: [MemoryAccessRegion; 16],
+    pub region_count: u64,
+}
+
+// What a builder call answers, and the policy then.
+pub struct Built {
+    pub answer: Stage2Result,
+    pub policy: Policy,
+}
+
+// The highest number that names a handler.
+const LAST_MEMORY_HANDLER: u64 = 1;
+
+impl Policy {
+    // The fresh policy: no range, no region.
+    pub fn new() -> Self
+        ensures { λ r. ⌜ r ≡ freshPolicy ⌝ }
+    {
+        let range = Stage2Range {
+            base_ipa: 0,
+            size: 0,
+            end_ipa: 0,
+            attributes: 0,
+        };
+        let handler = MemoryAccessHandler {
+            read: MemoryHandler::Absent,
+            write: MemoryHandler::Absent,
+        };
+        let region = MemoryAccessRegion {
+            base_ipa: 0,
+            size: 0,
+            handler,
+            end_ipa: 0,
+        };
+        Policy {
+            allowed: [range; 32],
+            allowed_count: 0,
+            regions: [region; 16],
+            region_count: 0,
+        }
+    }
+
+    // Allows the guest to access a range directly: refusals 1 to 7, in order.
+    pub fn allow_range(self, base_ipa: u64, size: u64, attributes: u64) -> Built
+        ensures { λ r. ⌜ r ≡ allowRange self «base_ipa» size attributes ⌝ }
+    {
+        match stage2_range::validate_range(base_ipa, size) {
+            Stage2Result::Refused(error) => refuse(self, error),
+            Stage2Result::Accepted => {
+                let range = Stage2Range {
+                    base_ipa,
+                    size,
+                    end_ipa: base_ipa + size,
+                    attributes,
+                };
+                allow_valid(self, range)
+            }
+        }
+    }
+
+    // Has the guest's accesses to a range handled, loads by one handler and stores by another, each named by its number: refusals 20,
+    // 1 to 4, 6, 8, 9, in order.
+    pub fn handle_range(self, base_ipa: u64, size: u64, read: u64, write: u64) -> Built
+        ensures { λ r. ⌜ r ≡ handleRange self «base_ipa» size read write ⌝ }
+    {
+        if LAST_MEMORY_HANDLER < read {
+            return refuse(self, Stage2ConfigError::UnknownMemoryHandler);
+        }
+        if LAST_MEMORY_HANDLER < write {
+            return refuse(self, Stage2ConfigError::UnknownMemoryHandler);
+        }
+        match stage2_range::validate_range(base_ipa, size) {
+            Stage2Result::Refused(error) => refuse(self, error),
+            Stage2Result::Accepted => {
+                let handler = MemoryAccessHandler {
+                    read: memory_handler(read),
+                    write: memory_handler(write),
+                };
+                let region = MemoryAccessRegion {
+                    base_ipa,
+                    size,
+                    handler,
+                    end_ipa: base_ipa + size,
+                };
+                handle_valid(self, region)
+            }
+        }
+    }
+
+    // The first region that has the address, and the offset in it.
+    pub fn find(self, ipa: Ipa) -> RegionFound
+        ensures { λ r. ⌜ r ≡ findRegion (regionsHeld self) ipa ⌝ }
+    {
+        let regions = self.regions;
+        stage2_range::find_region(regions, self.region_count, ipa)
+    }
+}
+
+fn refuse(policy: Policy, error: Stage2ConfigError) -> Built
+    ensures { λ r. ⌜ r ≡ builtBy (Refused error) policy policy ⌝ }
+{
+    Built {
+        answer: Stage2Result::Refused(error),
+        policy,
+    }
+}
+
+fn memory_handler(number: u64) -> MemoryHandler
+    ensures { λ r. ⌜ r ≡ handlerOf number ⌝ }
+{
+    match number {
+        1 => MemoryHandler::FilteredMmio,
+        _ => MemoryHandler::Absent,
+    }
+}
+
+// Refusals 5 to 7, in order; an accepted range goes after those that are held.
+fn allow_valid(policy: Policy, range: Stage2Range) -> Built
+    ensures { λ r. ⌜ r ≡ builtBy (allowAnswerFor policy range) policy (withAllowed policy range) ⌝ }
+{
+    let allowed = policy.allowed;
+    let regions = policy.regions;
+    let count = policy.allowed_count;
+    if MAX_ALLOWED_RANGES <= count {
+        return refuse(policy, Stage2ConfigError::TooManyAllowedRanges);
+    }
+    if stage2_range::overlaps_allowed(allowed, count, range.base_ipa, range.end_ipa) {
+        return refuse(policy, Stage2ConfigError::AllowedRangeOverlap);
+    }
+    if stage2_range::overlaps_regions(regions, policy.region_count, range.base_ipa, range.end_ipa) {
+        return refuse(
+            policy,
+            Stage2ConfigError::AllowedRangeOverlapsMemoryAccessHandler,
+        );
+    }
+    let mut next = policy;
+    next.allowed[count as usize] = range;
+    next.allowed_count = count + 1;
+    Built {
+        answer: Stage2Result::Accepted,
+        policy: next,
+    }
+}
+
+// Refusals 6, 8 and 9, in order; an accepted region goes to its place by base.
+fn handle_valid(policy: Policy, region: MemoryAccessRegion) -> Built
+    ensures { λ r. ⌜ r ≡ builtBy (handleAnswerFor policy region) policy (withRegion policy region) ⌝ }
+{
+    let allowed = policy.allowed;
+    let regions = policy.regions;
+    if stage2_range::overlaps_allowed(
+        allowed,
+        policy.allowed_count,
+        region.base_ipa,
+        region.end_ipa,
+    ) {
+        return refuse(policy, Stage2ConfigError::AllowedRangeOverlap);
+    }
+    let registered = stage2_range::register(regions, policy.region_count, region);
+    let answer = registered.answer;
+    let regions = registered.regions;
+    Built {
+        answer,
+        policy: Policy {
+            allowed,
+            allowed_count: policy.allowed_count,
+            regions,
+            region_count: registered.region_count,
+        },
+    }
+}
