@@ -1,16 +1,17 @@
 -- Laws on the definitions of `specs/`, and on the loops that compute them over the first `m` elements of a list. Assumes nothing.
 use Prim.Native.Nat.{ℕ, suc, _+_, _≤_, _<_, min}
 use mathlib.Core.Path.{_≡_, refl, sym, _∙_, ap}
-use mathlib.Core.Bool.{Bool, true, false, _||_, cond, or-true}
-use mathlib.Core.List.{List, [], _∷_, _++_, map, List·Memᴰ, List·Memᴰ·head, List·Memᴰ·tail, List·Memᴰ·not-nil, List·Memᴰ·cases-cons, append-assoc}
+use mathlib.Core.Bool.{Bool, true, false, _||_, cond, or-true, true≢false}
+use mathlib.Core.List.{List, [], _∷_, _++_, map, List·Memᴰ, List·Memᴰ·head, List·Memᴰ·tail, List·Memᴰ·not-nil, List·Memᴰ·cases-cons, Memᴰ·append-right, append-assoc}
 use mathlib.Core.Logic.{_⊎_, inl, inr}
 use native.Mathlib.Omega.{arith}
 use native.Mathlib.Numerals.{add-one}
 use lib.ListN.{length, take, drop, set, getD, length-take, length-set, length-map, drop-of-length-le}
-use lib.Dec.{leb, ltb, leb·suc-suc}
-use borrow.Author.Tests.{lt-ltb, le-ltb, leb-true, leb-false}
+use lib.Dec.{leb, ltb, eqb, leb·suc-suc}
+use borrow.Author.Tests.{lt-ltb, le-ltb, leb-true, leb-false, eqb-false}
 use lib.Seq.{length-take-le, drop-cons, getD-take, take-all, take-take, take-suc-set, take-set-lt, drop-set-lt, set-split}
 use Rattle.lists.specs.Lists.{held, firstOf, anyOf, firstIndex, replaceFirst, insertBefore, insertAt, Ascending}
+use Rattle.lists.specs.Refusals.{Case, firstMet}
 
 -- what is left of the first `m` from place `i` on begins with the element there
 pub drop-step : {A : Type 0} (l : List A) (m i : ℕ) (d : A) → i < m → m ≤ length l
@@ -230,3 +231,145 @@ module _ {A : Type 0} (key : A → ℕ) (y : A) where
           → Ascending key low (cond b (y ∷ x ∷ xs) (x ∷ insertBefore (λ z. leb (key y) (key z)) y xs))
       go true e below = (h, (leb-true (key y) (key x) e, a .1))
       go false e below = (a .0, below (omega (arith, leb-false (key y) (key x) e)))
+
+-- `x` is the first element that fits: no element before it does
+pub record FirstFit {A : Type 0} (fits : A → Bool) (l : List A) (x : A) : Type 0 where
+  pub before : List A
+  pub after : List A
+  pub parts : l ≡ before ++ (x ∷ after)
+  pub none-before : (y : A) → List·Memᴰ y before → fits y ≡ false
+  pub here : fits x ≡ true
+
+-- the first element that fits is one of the list
+pub first-member : {A : Type 0} (fits : A → Bool) (l : List A) (x : A) → FirstFit fits l x → List·Memᴰ x l
+first-member fits l x f = rw (f .parts) (Memᴰ·append-right (f .before) (List·Memᴰ·head refl))
+
+-- it is so whatever follows the list
+pub first-extended : {A : Type 0} (fits : A → Bool) (l : List A) (x : A) → FirstFit fits l x → (more : List A) → FirstFit fits (l ++ more) x
+first-extended fits l x f more = record {
+  before = f .before;
+  after = f .after ++ more;
+  parts = ap (λ k. k ++ more) (f .parts) ∙ append-assoc (f .before) (x ∷ f .after) more;
+  none-before = f .none-before;
+  here = f .here;
+}
+
+-- A list has a first element that fits, or none of it fits.
+module _ {A : Type 0} (fits : A → Bool) where
+  pub first-or-none : (l : List A) → ((x : A) × FirstFit fits l x) ⊎ ((x : A) → List·Memᴰ x l → fits x ≡ false)
+  first-or-none [] = inr (λ x m. absurd (List·Memᴰ·not-nil m))
+  first-or-none (y ∷ ys) = go (fits y) refl (first-or-none ys)
+    where
+      passed : fits y ≡ false → (l : List A) → ((x : A) → List·Memᴰ x l → fits x ≡ false) → (x : A) → (x ≡ y) ⊎ List·Memᴰ x l
+          → fits x ≡ false
+      passed f l h x (inl e) = ap fits e ∙ f
+      passed f l h x (inr m) = h x m
+
+      go : (b : Bool) → fits y ≡ b → ((x : A) × FirstFit fits ys x) ⊎ ((x : A) → List·Memᴰ x ys → fits x ≡ false)
+          → ((x : A) × FirstFit fits (y ∷ ys) x) ⊎ ((x : A) → List·Memᴰ x (y ∷ ys) → fits x ≡ false)
+      go true f w =
+          inl (y, record { before = []; after = ys; parts = refl; none-before = λ x m. absurd (List·Memᴰ·not-nil m); here = f })
+      go false f (inl w) =
+          let r = w .1 in
+          inl (
+            w .0,
+            record {
+              before = y ∷ r .before;
+              after = r .after;
+              parts = ap (_∷_ y) (r .parts);
+              none-before = λ x m. passed f (r .before) (r .none-before) x (List·Memᴰ·cases-cons m);
+              here = r .here;
+            },
+          )
+      go false f (inr h) = inr (λ x m. passed f ys h x (List·Memᴰ·cases-cons m))
+
+-- A search answers a hit exactly for the first element that fits; past elements that do not fit, the others decide.
+module _ {A B : Type 0} (fits : A → Bool) (hit : A → B) (none : B) where
+  pub first-past : (before rest : List A) → ((x : A) → List·Memᴰ x before → fits x ≡ false)
+      → firstOf fits hit none (before ++ rest) ≡ firstOf fits hit none rest
+  first-past [] rest h = refl
+  first-past (x ∷ xs) rest h = rw (h x (List·Memᴰ·head refl)) (first-past xs rest (λ y m. h y (List·Memᴰ·tail m)))
+
+  pub fit-first : (l : List A) (x : A) → FirstFit fits l x → firstOf fits hit none l ≡ hit x
+  fit-first l x f = rw (f .parts) (first-past (f .before) (x ∷ f .after) (f .none-before) ∙ rw (f .here))
+
+  pub first-fit : (l : List A) (v : B) → firstOf fits hit none l ≡ v → (v ≡ none → ⊥) → (x : A) × FirstFit fits l x × (hit x ≡ v)
+  first-fit l v e differ = go (first-or-none fits l)
+    where
+      go : ((x : A) × FirstFit fits l x) ⊎ ((x : A) → List·Memᴰ x l → fits x ≡ false) → (x : A) × FirstFit fits l x × (hit x ≡ v)
+      go (inl w) = (w .0, w .1, sym (fit-first l (w .0) (w .1)) ∙ e)
+      go (inr h) = absurd (differ (sym e ∙ none-first fits hit none l h))
+
+-- "First met wins": a number is given exactly where its case is the first that is met, and 0 exactly where none is.
+abbrev met : Case → Bool
+met c = c .met
+
+abbrev number : Case → ℕ
+number c = c .number
+
+module _ (cases : List Case) where
+  pub met-first : (c : Case) → FirstFit (λ d. d .met) cases c → firstMet cases ≡ c .number
+  met-first c f = fit-first met number 0 cases c f
+
+  pub first-met : (n : ℕ) → firstMet cases ≡ n → (n ≡ 0 → ⊥) → (c : Case) × FirstFit (λ d. d .met) cases c × (c .number ≡ n)
+  first-met n e differ = first-fit met number 0 cases n e differ
+
+  pub none-met : ((c : Case) → List·Memᴰ c cases → c .met ≡ false) → firstMet cases ≡ 0
+  none-met h = none-first met number 0 cases h
+
+  pub zero-none : ((c : Case) → List·Memᴰ c cases → c .number ≡ 0 → ⊥) → firstMet cases ≡ 0 → (c : Case) → List·Memᴰ c cases
+      → c .met ≡ false
+  zero-none numbered e = go (first-or-none met cases)
+    where
+      go : ((c : Case) × FirstFit met cases c) ⊎ ((c : Case) → List·Memᴰ c cases → c .met ≡ false)
+          → (c : Case) → List·Memᴰ c cases → c .met ≡ false
+      go (inl w) = absurd (numbered (w .0) (first-member met cases (w .0) (w .1)) (sym (met-first (w .0) (w .1)) ∙ e))
+      go (inr h) = h
+
+  -- a number that is given is given whatever follows; where 0 is given, what follows decides
+  pub met-sooner : (more : List Case) → (firstMet cases ≡ 0 → ⊥) → firstMet (cases ++ more) ≡ firstMet cases
+  met-sooner more differ =
+      let w = first-met (firstMet cases) refl differ in
+      fit-first met number 0 (cases ++ more) (w .0) (first-extended met cases (w .0) (w .1) more) ∙ w .2
+
+  pub met-later : (more : List Case) → ((c : Case) → List·Memᴰ c cases → c .number ≡ 0 → ⊥) → firstMet cases ≡ 0
+      → firstMet (cases ++ more) ≡ firstMet more
+  met-later more numbered e = first-past met number 0 cases more (zero-none numbered e)
+
+  -- to see that no number of a table is 0, look at its lines
+  pub all-numbered : anyOf (λ c. eqb (c .number) 0) cases ≡ false → (c : Case) → List·Memᴰ c cases → c .number ≡ 0 → ⊥
+  all-numbered e c m = eqb-false (c .number) 0 (first-none (λ d. eqb (d .number) 0) (λ d. true) false (λ d t. true≢false) cases e c m)
+
+-- to insert where none fits is to insert at the end
+pub insert-end : {A : Type 0} (y : A) (l : List A) → insertBefore (λ x. false) y l ≡ l ++ (y ∷ [])
+insert-end y [] = refl
+insert-end y (x ∷ xs) = ap (_∷_ x) (insert-end y xs)
+
+-- An element of an insertion is the one inserted, or it was there.
+pub inserted-or-old : {A : Type 0} (fits : A → Bool) (y : A) (l : List A) (z : A) → List·Memᴰ z (insertBefore fits y l)
+    → (z ≡ y) ⊎ List·Memᴰ z l
+inserted-or-old fits y [] z m = List·Memᴰ·cases-cons m
+inserted-or-old {A} fits y (x ∷ xs) z m = go (fits x) m (inserted-or-old fits y xs z)
+  where
+    later : (z ≡ y) ⊎ List·Memᴰ z xs → (z ≡ y) ⊎ List·Memᴰ z (x ∷ xs)
+    later (inl e) = inl e
+    later (inr m′) = inr (List·Memᴰ·tail m′)
+
+    split : (z ≡ x) ⊎ List·Memᴰ z (insertBefore fits y xs) → (List·Memᴰ z (insertBefore fits y xs) → (z ≡ y) ⊎ List·Memᴰ z xs)
+        → (z ≡ y) ⊎ List·Memᴰ z (x ∷ xs)
+    split (inl e) below = inr (List·Memᴰ·head e)
+    split (inr m′) below = later (below m′)
+
+    go : (b : Bool) → List·Memᴰ z (cond b (y ∷ x ∷ xs) (x ∷ insertBefore fits y xs))
+        → (List·Memᴰ z (insertBefore fits y xs) → (z ≡ y) ⊎ List·Memᴰ z xs) → (z ≡ y) ⊎ List·Memᴰ z (x ∷ xs)
+    go true m′ below = List·Memᴰ·cases-cons m′
+    go false m′ below = split (List·Memᴰ·cases-cons m′) below
+
+-- what holds of every element and of the one inserted holds of every element of the insertion
+pub inserted-all : {A : Type 0} (P : A → Type 0) (fits : A → Bool) (y : A) (l : List A) → P y → ((x : A) → List·Memᴰ x l → P x)
+    → (x : A) → List·Memᴰ x (insertBefore fits y l) → P x
+inserted-all P fits y l h k x m = go (inserted-or-old fits y l x m)
+  where
+    go : (x ≡ y) ⊎ List·Memᴰ x l → P x
+    go (inl e) = rw e h
+    go (inr m′) = k x m′

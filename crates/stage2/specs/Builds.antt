@@ -5,13 +5,12 @@ use mathlib.Core.Bool.{_&&_, true, false}
 use mathlib.Core.List.{List, [], _∷_, List·Memᴰ}
 use lib.ListN.{length}
 use Rattle.lists.specs.Lists.{Ascending}
-use Rattle.stage2_range.specs.declared.Stage2Result.the-variants.{Accepted}
 use Rattle.stage2_range.specs.declared.Stage2Range.{Stage2Range}
 use Rattle.stage2_range.specs.declared.MemoryAccessRegion.{MemoryAccessRegion}
 use Rattle.stage2_range.specs.Ranges.{ValidRange, sharesByte}
 use Rattle.stage2.specs.declared.Policy.{Policy}
 use Rattle.stage2.specs.declared.Built.{Built}
-use Rattle.stage2.specs.Policy.{isHandler, allowedHeld, regionsHeld, freshPolicy, allowRange, handleRange}
+use Rattle.stage2.specs.Policy.{isHandler, allowedHeld, regionsHeld, allowRange, handleRange}
 
 -- "Builder calls are `allow_range` and `handle_range`"
 pub data BuilderCall : Type 0 where
@@ -58,8 +57,10 @@ pub record WellFormed (p : Policy) : Type 0 where
   pub region-places : length (p .regions) ≡ 16
   pub allowed-limit : p .«allowed_count» ≤ 32
   pub region-limit : p .«region_count» ≤ 16
-  pub allowed-valid : (r : Stage2Range) → List·Memᴰ r (allowedHeld p) → ValidRange (r .«base_ipa») (r .size) × (r .«end_ipa» ≡ r .«base_ipa» + r .size)
-  pub regions-valid : (r : MemoryAccessRegion) → List·Memᴰ r (regionsHeld p) → ValidRange (r .«base_ipa») (r .size) × (r .«end_ipa» ≡ r .«base_ipa» + r .size)
+  pub allowed-valid : (r : Stage2Range) → List·Memᴰ r (allowedHeld p)
+      → ValidRange (r .«base_ipa») (r .size) × (r .«end_ipa» ≡ r .«base_ipa» + r .size)
+  pub regions-valid : (r : MemoryAccessRegion) → List·Memᴰ r (regionsHeld p)
+      → ValidRange (r .«base_ipa») (r .size) × (r .«end_ipa» ≡ r .«base_ipa» + r .size)
   pub allowed-apart : AllApart (λ r. r .«base_ipa») (λ r. r .«end_ipa») (allowedHeld p)
   pub regions-apart : AllApart (λ r. r .«base_ipa») (λ r. r .«end_ipa») (regionsHeld p)
   pub lists-apart : (a : Stage2Range) → List·Memᴰ a (allowedHeld p) → (r : MemoryAccessRegion) → List·Memᴰ r (regionsHeld p)

@@ -86,11 +86,13 @@ withAllowed p r = record {
   «region_count» = p .«region_count»;
 }
 
--- `allow_range`: "allow 1 to 7 in order"
+-- what `allow_range` answers: "allow 1 to 7 in order"
+abbrev pub allowAnswer : Policy → ℕ → ℕ → ℕ → Stage2Result
+allowAnswer p base size attributes = after (validateRange base size) (allowAnswerFor p (rangeOf base size attributes))
+
+-- `allow_range`
 unfoldable pub allowRange : Policy → ℕ → ℕ → ℕ → Built
-allowRange p base size attributes =
-    let range = rangeOf base size attributes in
-    builtBy (after (validateRange base size) (allowAnswerFor p range)) p (withAllowed p range)
+allowRange p base size attributes = builtBy (allowAnswer p base size attributes) p (withAllowed p (rangeOf base size attributes))
 
 -- refusals 6, 8 and 9: "shares a byte with an allowed range", "16 regions", "handling, shares a byte with a region"
 unfoldable pub handleAnswerFor : Policy → MemoryAccessRegion → Stage2Result
@@ -107,15 +109,15 @@ withRegion p r = record {
   «region_count» = p .«region_count» + 1;
 }
 
--- `handle_range`: "handle 20, 1 to 4, 6, 8, 9"
+-- what `handle_range` answers: "handle 20, 1 to 4, 6, 8, 9"
+abbrev pub handleAnswer : Policy → ℕ → ℕ → ℕ → ℕ → Stage2Result
+handleAnswer p base size read write =
+    refuseIf (not (isHandler read && isHandler write)) UnknownMemoryHandler
+    (after (validateRange base size) (handleAnswerFor p (regionOf base size read write)))
+
+-- `handle_range`
 unfoldable pub handleRange : Policy → ℕ → ℕ → ℕ → ℕ → Built
-handleRange p base size read write =
-    let region = regionOf base size read write in
-    builtBy
-    (refuseIf (not (isHandler read && isHandler write)) UnknownMemoryHandler
-    (after (validateRange base size) (handleAnswerFor p region)))
-    p
-    (withRegion p region)
+handleRange p base size read write = builtBy (handleAnswer p base size read write) p (withRegion p (regionOf base size read write))
 
 -- the lines of the table that `allow_range` meets, in its order
 abbrev pub allowCases : Policy → ℕ → ℕ → List Case

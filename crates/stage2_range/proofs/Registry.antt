@@ -5,17 +5,18 @@ use mathlib.Core.Bool.{Bool, true, false, _&&_, true≢false}
 use mathlib.Core.List.{List, _∷_, _++_, List·Memᴰ}
 use native.Mathlib.Omega.{arith}
 use native.Mathlib.Numerals.{add-one}
-use borrow.Author.Tests.{lt-ltb, le-leb, lt-leb, leb-true}
+use borrow.Author.Tests.{lt-ltb, le-leb, lt-leb, ltb-true, leb-true}
 use lib.Dec.{ltb, leb}
 use lib.ListN.{length, take, drop, getD}
 use lib.Seq.{length-take-le, getD-take, take-at, drop-at}
 use Rattle.lists.specs.Lists.{held, firstIndex, insertBefore, insertAt, Ascending}
-use Rattle.lists.proofs.Laws.{length-held, held-within, any-at, first-at, first-missing, index-le, index-fits, first-none, none-first, length-insert, insert-at, insert-place, insert-ascending}
+use Rattle.lists.proofs.Laws.{length-held, held-within, any-at, first-at, first-missing, index-le, index-fits, first-none, none-first, length-insert, insert-at, insert-place, insert-ascending, first-fit, first-member}
 use Rattle.memory_access.specs.declared.Ipa.{Ipa}
 use Rattle.stage2_range.specs.declared.Stage2Result.the-variants.{Accepted, Refused}
 use Rattle.stage2_range.specs.declared.MemoryAccessRegion.{MemoryAccessRegion}
 use Rattle.stage2_range.specs.declared.Sought.{Sought}
 use Rattle.stage2_range.specs.declared.Sought.the-variants.{Overlap, Address, BaseNotBelow}
+use Rattle.stage2_range.specs.declared.MemoryAccessHandlerMatch.{MemoryAccessHandlerMatch}
 use Rattle.stage2_range.specs.declared.RegionFound.the-variants.{Nothing, Match}
 use Rattle.stage2_range.specs.Registry.{fits, overlapsRegions, findRegion, insertRegion, registerAnswer, registerRegion}
 use Rattle.stage2_range.specs.Ranges.{sharesByte}
@@ -25,10 +26,23 @@ both-left : (a b : Bool) → (a && b) ≡ true → a ≡ true
 both-left true b h = refl
 both-left false b h = h
 
--- a region that has an address starts at or below it
-base-below : (ipa : ℕ) (r : MemoryAccessRegion) → fits (Address ipa) r ≡ true → r .«base_ipa» ≤ ipa
-unfolding fits
-base-below ipa r t = leb-true (r .«base_ipa») ipa (both-left (leb (r .«base_ipa») ipa) (ltb ipa (r .«end_ipa»)) t)
+both-right : (a b : Bool) → (a && b) ≡ true → b ≡ true
+both-right true b h = h
+both-right false b h = absurd (true≢false (sym h))
+
+-- a region has an address exactly where "base ≤ IPA < end"
+module _ (ipa : ℕ) (r : MemoryAccessRegion) where
+  base-below : fits (Address ipa) r ≡ true → r .«base_ipa» ≤ ipa
+  unfolding fits
+  base-below t = leb-true (r .«base_ipa») ipa (both-left (leb (r .«base_ipa») ipa) (ltb ipa (r .«end_ipa»)) t)
+
+  end-above : fits (Address ipa) r ≡ true → ipa < r .«end_ipa»
+  unfolding fits
+  end-above t = ltb-true ipa (r .«end_ipa») (both-right (leb (r .«base_ipa») ipa) (ltb ipa (r .«end_ipa»)) t)
+
+  pub has-address : r .«base_ipa» ≤ ipa → ipa < r .«end_ipa» → fits (Address ipa) r ≡ true
+  unfolding fits
+  has-address h k = rw (le-leb (r .«base_ipa») ipa h, lt-ltb ipa (r .«end_ipa») k)
 
 -- The searches of the regions, by the place of the first that fits.
 module _ (regions : List MemoryAccessRegion) (count : ℕ) (full : length regions ≡ 16) where
@@ -118,6 +132,12 @@ module _ (regions : List MemoryAccessRegion) (n : ℕ) (region : MemoryAccessReg
   unfolding insertRegion
   insert-front = take-at (insertBefore not-below region (take n regions)) (drop (n + 1) regions) (n + 1) inserted-length
 
+  -- the same, by the bases
+  pub insert-by-base : take (n + 1) (insertRegion regions n region)
+      ≡ insertBefore (λ r. leb (region .«base_ipa») (r .«base_ipa»)) region (take n regions)
+  unfolding fits
+  insert-by-base = insert-front
+
   pub insert-rest : drop (n + 1) (insertRegion regions n region) ≡ drop (n + 1) regions
   unfolding insertRegion
   insert-rest = drop-at (insertBefore not-below region (take n regions)) (drop (n + 1) regions) (n + 1) inserted-length
@@ -148,3 +168,20 @@ module _ (regions : List MemoryAccessRegion) (n : ℕ) (region : MemoryAccessReg
       → registerRegion regions n region ≡ record { answer = Accepted; regions = insertRegion regions n region; «region_count» = n + 1 }
   unfolding registerRegion registerAnswer
   apart-registered h o = rw (lt-leb 16 n h, o)
+
+-- a region that is found is one of those searched, it has the address, and the offset is counted from its base
+pub find-held : (regions : List MemoryAccessRegion) (ipa : Ipa) (m : MemoryAccessHandlerMatch) → findRegion regions ipa ≡ Match m
+    → List·Memᴰ (m .region) regions
+    × (m .region .«base_ipa» ≤ ipa .0)
+    × (ipa .0 < m .region .«end_ipa»)
+    × (m .offset ≡ ipa .0 - m .region .«base_ipa»)
+unfolding findRegion
+find-held regions ipa m e =
+    let w = first-fit (fits (Address (ipa .0))) _ Nothing regions (Match m) e (differs (m .region) (m .offset)) in
+    let s : record { region = w .0; offset = ipa .0 - w .0 .«base_ipa» } ≡ m = cc in
+    rw (← s) (
+      first-member (fits (Address (ipa .0))) regions (w .0) (w .1),
+      base-below (ipa .0) (w .0) (w .1 .here),
+      end-above (ipa .0) (w .0) (w .1 .here),
+      refl,
+    )
