@@ -1,0 +1,42 @@
+use Rattle.hypervisor.specs.Trap.{registersFor, forwardCall}
+use Prim.Native.Nat.{_≤_}
+use native.Mathlib.Omega.{arith}
+use Rattle.exceptions.specs.declared.Recipient.{Recipient}
+use Rattle.exceptions.specs.declared.Recipient.the-variants.{Firmware, Platform}
+use borrow.Author.Needs.{needs}
+use Rattle.hypervisor.proofs.forward_call.Statement.{statement}
+use Rattle.hypervisor.proofs.forward_call.Tie as tie
+
+array-read-recipient-of : tie.Need-array-read-recipient-of
+array-read-recipient-of c = search needs
+
+registers-fit : (r : Recipient) → registersFor r ≤ 18
+registers-fit Firmware = omega arith
+registers-fit Platform = omega arith
+
+recipient-of-requires : tie.Need-recipient-of-requires
+recipient-of-requires c κs = search needs
+
+registers-for-requires : tie.Need-registers-for-requires
+registers-for-requires c κs = search needs
+
+first-registers-requires : tie.Need-first-registers-requires
+first-registers-requires c κs = rw (c .registers-for .ensures) (registers-fit (c .before .recipient-of .result))
+
+wait-for-requires : tie.Need-wait-for-requires
+wait-for-requires c κs = search needs
+
+returns : tie.Need-returns
+unfolding forwardCall
+returns c = rw (c .wait-for .ensures, c .before .first-registers .ensures, c .before .before .registers-for .ensures, c .before .before .before .recipient-of .ensures)
+
+pub forward-call-spec : {M : Type 1} → statement M
+forward-call-spec =
+    tie.close
+    (tie.spec
+    array-read-recipient-of
+    recipient-of-requires
+    registers-for-requires
+    first-registers-requires
+    wait-for-requires
+    returns)

@@ -1,0 +1,39 @@
+use Rattle.hypervisor.specs.DataAbort.{handleDataAbort}
+use borrow.Author.Needs.{needs}
+use Rattle.hypervisor.proofs.handle_data_abort.Statement.{statement}
+use Rattle.hypervisor.proofs.handle_data_abort.Tie as tie
+
+try-memory-access-handler-requires : tie.Need-try-memory-access-handler-requires
+try-memory-access-handler-requires c κs = search needs
+
+enum-known-outcome : tie.Need-enum-known-outcome
+enum-known-outcome c = search needs
+
+without-values-requires : tie.Need-without-values-requires
+without-values-requires c κs = search needs
+
+enum-told : tie.Need-enum-told
+enum-told c = search needs
+
+inject-data-abort-requires : tie.Need-inject-data-abort-requires
+inject-data-abort-requires c κs = search needs
+
+returns : tie.Need-returns
+unfolding handleDataAbort
+returns c = rw (c .without-values .ensures, ← c .before .before .before .before .before .try-memory-access-handler .ensures, c .before .before .outcome .given .1)
+
+returns-2 : tie.Need-returns-2
+unfolding handleDataAbort
+returns-2 c = rw (c .inject-data-abort .ensures, ← c .before .before .before .before .try-memory-access-handler .ensures, c .before .enum-told .given .1)
+
+pub handle-data-abort-spec : {M : Type 1} → statement M
+handle-data-abort-spec =
+    tie.close
+    (tie.spec
+    try-memory-access-handler-requires
+    enum-known-outcome
+    without-values-requires
+    enum-told
+    inject-data-abort-requires
+    returns
+    returns-2)

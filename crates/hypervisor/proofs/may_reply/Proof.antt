@@ -1,0 +1,26 @@
+use borrow.Author.Tests.{eq-eqb, ne-eqb}
+use Rattle.hypervisor.specs.Cores.{mayReply}
+use borrow.Author.Needs.{needs}
+use Rattle.hypervisor.proofs.may_reply.Statement.{statement}
+use Rattle.hypervisor.proofs.may_reply.Tie as tie
+
+enum-told : tie.Need-enum-told
+enum-told c = search needs
+
+enum-told-2 : tie.Need-enum-told-2
+enum-told-2 c = search needs
+
+returns : tie.Need-returns
+unfolding mayReply
+returns c = rw (c .before .enum-told .given .1, eq-eqb _ _ (c .if1 .taken))
+
+returns-2 : tie.Need-returns-2
+unfolding mayReply
+returns-2 c = rw (c .before .enum-told .given .1, ne-eqb _ _ (c .if1 .left))
+
+returns-3 : tie.Need-returns-3
+unfolding mayReply
+returns-3 c = rw (c .enum-told2 .given .1)
+
+pub may-reply-spec : {M : Type 1} → statement M
+may-reply-spec = tie.close (tie.spec enum-told enum-told-2 returns returns-2 returns-3)

@@ -1,0 +1,79 @@
+use Rattle.hypervisor.specs.DataAbort.{readThrough}
+use borrow.Author.Needs.{needs}
+use Rattle.hypervisor.proofs.read_through.Statement.{statement}
+use Rattle.hypervisor.proofs.read_through.Tie as tie
+
+enum-told : tie.Need-enum-told
+enum-told c = search needs
+
+unhandled-requires : tie.Need-unhandled-requires
+unhandled-requires c κs = search needs
+
+enum-told-2 : tie.Need-enum-told-2
+enum-told-2 c = search needs
+
+read-filtered-mmio-requires : tie.Need-read-filtered-mmio-requires
+read-filtered-mmio-requires c κs = search needs
+
+enum-known-result : tie.Need-enum-known-result
+enum-known-result c = search needs
+
+extend-read-result-requires : tie.Need-extend-read-result-requires
+extend-read-result-requires c κs = search needs
+
+write-gpr-requires : tie.Need-write-gpr-requires
+write-gpr-requires c κs = search needs
+
+advance-guest-pc-requires : tie.Need-advance-guest-pc-requires
+advance-guest-pc-requires c κs = search needs
+
+enum-told-3 : tie.Need-enum-told-3
+enum-told-3 c = search needs
+
+unhandled-requires-2 : tie.Need-unhandled-requires-2
+unhandled-requires-2 c κs = search needs
+
+returns : tie.Need-returns
+unfolding readThrough
+returns c = rw (c .unhandled .ensures, c .before .enum-told .given .1)
+
+returns-2 : tie.Need-returns-2
+unfolding readThrough
+returns-2 c =
+    let read = c .before .before .before .before .before .before .before .read-filtered-mmio in
+    rw (
+      c .before .before .before .before .before .before .before .before .enum-told2 .given .1,
+      ← read .ensures,
+      c .before .before .before .before .before .result .given .1,
+      c .advance-guest-pc .ensures,
+      c .before .before .write-gpr .ensures,
+      c .before .before .before .extend-read-result .ensures,
+    )
+
+returns-3 : tie.Need-returns-3
+unfolding readThrough
+returns-3 c =
+    rw (
+      c .unhandled2 .ensures,
+      c .before .before .before .before .enum-told2 .given .1,
+      ← c .before .before .before .read-filtered-mmio .ensures,
+      c .before .enum-told3 .given .1,
+    )
+
+pub read-through-spec : {M : Type 1} → statement M
+read-through-spec =
+    tie.close
+    (tie.spec
+    enum-told
+    unhandled-requires
+    enum-told-2
+    read-filtered-mmio-requires
+    enum-known-result
+    extend-read-result-requires
+    write-gpr-requires
+    advance-guest-pc-requires
+    enum-told-3
+    unhandled-requires-2
+    returns
+    returns-2
+    returns-3)

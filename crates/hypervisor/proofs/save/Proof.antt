@@ -1,0 +1,41 @@
+use native.Mathlib.Omega.{arith}
+use borrow.Author.Tests.{lt-ltb, le-ltb}
+use Rattle.hypervisor.specs.Cores.{noCore, onCore, saveOn}
+use borrow.Author.Needs.{needs}
+use Rattle.hypervisor.proofs.save.Statement.{statement}
+use Rattle.hypervisor.proofs.save.Tie as tie
+
+refuse-cores-requires : tie.Need-refuse-cores-requires
+refuse-cores-requires c κs = search needs
+
+returns : tie.Need-returns
+unfolding onCore saveOn
+returns c = rw (c .refuse-cores .ensures, lt-ltb 7 (c .before .before .args .core) (omega (arith, c .before .if1 .taken)))
+
+mul-one : tie.Need-mul-one
+mul-one c = search needs
+
+array-copy-out-one : tie.Need-array-copy-out-one
+array-copy-out-one c = search needs
+
+save-core-requires : tie.Need-save-core-requires
+save-core-requires c κs = search needs
+
+place-requires : tie.Need-place-requires
+place-requires c κs = search needs
+
+returns-2 : tie.Need-returns-2
+unfolding onCore saveOn noCore
+returns-2 c = rw (c .place .ensures, c .before .save-core .ensures, le-ltb 7 (c .before .before .before .before .args .core) (omega (arith, c .before .before .before .if1 .left)))
+
+pub save-spec : {M : Type 1} → statement M
+save-spec =
+    tie.close
+    (tie.spec
+    refuse-cores-requires
+    returns
+    mul-one
+    array-copy-out-one
+    save-core-requires
+    place-requires
+    returns-2)

@@ -1,0 +1,45 @@
+use native.Mathlib.Omega.{arith}
+use borrow.Author.Tests.{lt-ltb, le-ltb}
+use Rattle.hypervisor.specs.Cores.{noCore, trapOn}
+use borrow.Author.Needs.{needs}
+use Rattle.hypervisor.proofs.trap.Statement.{statement}
+use Rattle.hypervisor.proofs.trap.Tie as tie
+
+no-values-requires : tie.Need-no-values-requires
+no-values-requires c κs = search needs
+
+returns : tie.Need-returns
+unfolding trapOn
+returns c = rw (c .no-values .ensures, lt-ltb 7 (c .before .before .args .core) (omega (arith, c .before .if1 .taken)))
+
+mul-one : tie.Need-mul-one
+mul-one c = search needs
+
+array-copy-out-one : tie.Need-array-copy-out-one
+array-copy-out-one c = search needs
+
+handle-sync-lower-requires : tie.Need-handle-sync-lower-requires
+handle-sync-lower-requires c κs = search needs
+
+mul-next : tie.Need-mul-next
+mul-next c = search needs
+
+array-set-from-next : tie.Need-array-set-from-next
+array-set-from-next c = search needs
+
+returns-2 : tie.Need-returns-2
+unfolding trapOn noCore
+returns-2 c = rw (c .before .before .handle-sync-lower .ensures, le-ltb 7 (c .before .before .before .before .before .before .args .core) (omega (arith, c .before .before .before .before .before .if1 .left)))
+
+pub trap-spec : {M : Type 1} → statement M
+trap-spec =
+    tie.close
+    (tie.spec
+    no-values-requires
+    returns
+    mul-one
+    array-copy-out-one
+    handle-sync-lower-requires
+    mul-next
+    array-set-from-next
+    returns-2)

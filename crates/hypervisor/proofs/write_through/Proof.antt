@@ -1,0 +1,80 @@
+use Rattle.hypervisor.specs.DataAbort.{writeThrough}
+use borrow.Author.Needs.{needs}
+use Rattle.hypervisor.proofs.write_through.Statement.{statement}
+use Rattle.hypervisor.proofs.write_through.Tie as tie
+
+enum-told : tie.Need-enum-told
+enum-told c = search needs
+
+unhandled-requires : tie.Need-unhandled-requires
+unhandled-requires c κs = search needs
+
+enum-told-2 : tie.Need-enum-told-2
+enum-told-2 c = search needs
+
+register-value-requires : tie.Need-register-value-requires
+register-value-requires c κs = search needs
+
+store-value-requires : tie.Need-store-value-requires
+store-value-requires c κs = search needs
+
+write-filtered-mmio-requires : tie.Need-write-filtered-mmio-requires
+write-filtered-mmio-requires c κs = search needs
+
+enum-told-3 : tie.Need-enum-told-3
+enum-told-3 c = search needs
+
+advance-guest-pc-requires : tie.Need-advance-guest-pc-requires
+advance-guest-pc-requires c κs = search needs
+
+enum-told-4 : tie.Need-enum-told-4
+enum-told-4 c = search needs
+
+unhandled-requires-2 : tie.Need-unhandled-requires-2
+unhandled-requires-2 c κs = search needs
+
+returns : tie.Need-returns
+unfolding writeThrough
+returns c = rw (c .unhandled .ensures, c .before .enum-told .given .1)
+
+returns-2 : tie.Need-returns-2
+unfolding writeThrough
+returns-2 c =
+    rw (
+      c .advance-guest-pc .ensures,
+      c .before .before .before .before .before .before .enum-told2 .given .1,
+      ← c .before .before .before .before .before .register-value .ensures,
+      ← c .before .before .before .before .store-value .ensures,
+      ← c .before .before .before .write-filtered-mmio .ensures,
+      c .before .enum-told3 .given .1,
+    )
+
+returns-3 : tie.Need-returns-3
+unfolding writeThrough
+returns-3 c =
+    rw (
+      c .unhandled2 .ensures,
+      c .before .before .before .before .before .before .enum-told2 .given .1,
+      ← c .before .before .before .before .before .register-value .ensures,
+      ← c .before .before .before .before .store-value .ensures,
+      ← c .before .before .before .write-filtered-mmio .ensures,
+      c .before .enum-told4 .given .1,
+    )
+
+pub write-through-spec : {M : Type 1} → statement M
+write-through-spec =
+    tie.close
+    (tie.spec
+    enum-told
+    unhandled-requires
+    enum-told-2
+    register-value-requires
+    store-value-requires
+    write-filtered-mmio-requires
+    enum-told-3
+    advance-guest-pc-requires
+    enum-told-4
+    unhandled-requires-2
+    returns
+    returns-2
+    returns-3)

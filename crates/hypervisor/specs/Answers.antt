@@ -1,0 +1,61 @@
+-- The answers of the calls on a core, with document 01's numbers. Assumes nothing.
+use Prim.Native.Nat.{ℕ}
+use mathlib.Core.List.{List}
+use lib.ListN.{replicate}
+use Rattle.memory_access.specs.declared.MemoryAccessKind.the-variants.{Read, Write}
+use Rattle.exceptions.specs.declared.Core.{Core}
+use Rattle.exceptions.specs.declared.Recipient.the-variants.{Firmware, Platform}
+use Rattle.hypervisor.specs.declared.CoreError.{CoreError}
+use Rattle.hypervisor.specs.declared.CoreError.the-variants.{NoSuchCore, CoreWaiting, UnexpectedExceptionClass, NoGuestVector, NothingWaiting, UnknownReplyKind}
+use Rattle.hypervisor.specs.declared.CoreAnswer.{CoreAnswer}
+use Rattle.hypervisor.specs.declared.CoreAnswer.the-variants as core-answer
+use Rattle.hypervisor.specs.declared.CoreStep.{CoreStep}
+use Rattle.hypervisor.specs.declared.TrapAnswer.{TrapAnswer}
+use Rattle.hypervisor.specs.declared.TrapAnswer.the-variants.{AccessHandled, AbortInjected, Forwarded, Refused}
+use Rattle.hypervisor.specs.declared.TrapStep.{TrapStep}
+
+-- the numbers of the refusals in document 01's table
+abbrev pub errorNumber : CoreError → ℕ
+errorNumber NoSuchCore = 10
+errorNumber CoreWaiting = 11
+errorNumber UnexpectedExceptionClass = 12
+errorNumber NoGuestVector = 13
+errorNumber NothingWaiting = 14
+errorNumber UnknownReplyKind = 15
+
+-- the number of a save's or a reply's answer: 0 where it is accepted
+abbrev pub coreNumber : CoreAnswer → ℕ
+coreNumber core-answer.Accepted = 0
+coreNumber (core-answer.Refused error) = errorNumber error
+
+-- the number of a trap's answer: 0 where it is accepted
+abbrev pub trapNumber : TrapAnswer → ℕ
+trapNumber (AccessHandled kind) = 0
+trapNumber AbortInjected = 0
+trapNumber (Forwarded recipient) = 0
+trapNumber (Refused error) = errorNumber error
+
+-- which of "load handled, store handled, abort injected, to the firmware .., to the platform" an accepted trap answers, from 1 on
+abbrev pub trapKind : TrapAnswer → ℕ
+trapKind (AccessHandled Read) = 1
+trapKind (AccessHandled Write) = 2
+trapKind AbortInjected = 3
+trapKind (Forwarded Firmware) = 4
+trapKind (Forwarded Platform) = 5
+trapKind (Refused error) = 0
+
+-- "every other result field 0": the values of an answer that has none
+abbrev pub noValues : List ℕ
+noValues = replicate 18 0
+
+-- a trap's answer without values
+unfoldable pub answered : TrapAnswer → Core → ℕ → TrapStep
+answered answer core counter = record { answer = answer; values = noValues; core = core; counter = counter }
+
+-- "A refusal returns its number with every other result field 0, and all state is as before"
+abbrev pub refused : CoreError → Core → ℕ → TrapStep
+refused error core counter = answered (Refused error) core counter
+
+-- the same of a save or a reply
+abbrev pub refusedCore : CoreError → Core → CoreStep
+refusedCore error core = record { answer = core-answer.Refused error; core = core }

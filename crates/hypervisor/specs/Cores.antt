@@ -1,0 +1,116 @@
+-- Save, reply and trap, on one core and on one of eight (document 01, "Core", "Reply", "Trap"). Assumes nothing.
+use Prim.Native.Nat.{ℕ}
+use mathlib.Core.Bool.{Bool, true, cond, _||_}
+use mathlib.Core.List.{List, []}
+use lib.Dec.{eqb, ltb}
+use lib.ListN.{getD, set, replicate}
+use Rattle.exceptions.specs.declared.Core.{Core}
+use Rattle.exceptions.specs.declared.Conduit.{Conduit}
+use Rattle.exceptions.specs.declared.Conduit.the-variants.{Hvc, Smc}
+use Rattle.exceptions.specs.declared.Recipient.{Recipient}
+use Rattle.exceptions.specs.declared.Recipient.the-variants.{Firmware, Platform}
+use Rattle.exceptions.specs.declared.Wait.{Wait}
+use Rattle.exceptions.specs.declared.Wait.the-variants.{Nothing, Call}
+use Rattle.exceptions.specs.Registers.{freshCore}
+use Rattle.hvc_response.specs.declared.HvcResultKind.{HvcResultKind}
+use Rattle.hvc_response.specs.declared.HvcResultKind.the-variants.{Result, UnknownKind}
+use Rattle.hvc_response.specs.Response.{response, resultOfKind, withFirst}
+use Rattle.stage2.specs.declared.Policy.{Policy}
+use Rattle.stage2.specs.Policy.{regionsHeld}
+use Rattle.hypervisor.specs.declared.CoreAnswer.the-variants.{Accepted, Refused}
+use Rattle.hypervisor.specs.declared.CoreError.the-variants.{NoSuchCore, CoreWaiting, NothingWaiting, UnknownReplyKind}
+use Rattle.hypervisor.specs.declared.CoreStep.{CoreStep}
+use Rattle.hypervisor.specs.declared.CoresStep.{CoresStep}
+use Rattle.hypervisor.specs.declared.HvcReply.{HvcReply}
+use Rattle.hypervisor.specs.declared.TrapRegisters.{TrapRegisters}
+use Rattle.hypervisor.specs.declared.TrapAnswer.the-variants as trap-answer
+use Rattle.hypervisor.specs.declared.TrapStep.{TrapStep}
+use Rattle.hypervisor.specs.declared.Trapped.{Trapped}
+use Rattle.hypervisor.specs.Answers.{noValues, refusedCore}
+use Rattle.hypervisor.specs.DataAbort.{advanced}
+use Rattle.hypervisor.specs.Trap.{waits, withWait, handleSyncLower}
+
+-- "There are 8 cores", each fresh
+unfoldable pub freshCores : List Core
+freshCores = replicate 8 freshCore
+
+-- "A save step puts in x0 to x30, ELR and SPSR as the hardware saved them"; 11: "trap or save while waiting"
+unfoldable pub saveCore : Core → List ℕ → ℕ → ℕ → CoreStep
+saveCore core x elr spsr =
+    cond (waits (core .wait)) (refusedCore CoreWaiting core)
+    (record { answer = Accepted; core = record { x = x; elr = elr; spsr = spsr; el1 = core .el1; wait = core .wait } })
+
+-- 15 is met where a kind is "not 1 or 4 for the firmware"
+unfoldable pub mayReply : Recipient → ℕ → Bool
+mayReply Firmware kind = eqb kind 1 || eqb kind 4
+mayReply Platform kind = true
+
+-- "for an SMC, whichever reply it was, ELR grows by 4 modulo 2^64, for an HVC it stays"; the wait ends
+unfoldable pub resumed : Conduit → Core → Core
+resumed Hvc core = withWait core Nothing
+resumed Smc core = withWait (advanced core) Nothing
+
+-- "The reply writes its registers"; 15: "kind above 4"
+abbrev pub replied : HvcResultKind → Conduit → Core → List ℕ → CoreStep
+replied (Result result) conduit core values = record { answer = Accepted; core = resumed conduit (withFirst core (response result values)) }
+replied UnknownKind conduit core values = refusedCore UnknownReplyKind core
+
+-- a reply to a forwarded call, by its kind
+unfoldable pub completeCall : Conduit → Core → HvcReply → CoreStep
+completeCall conduit core reply = replied (resultOfKind (reply .kind) (getD (reply .values) 0 0) (reply .error)) conduit core (reply .values)
+
+-- 14: "reply to a core that waits for none"
+abbrev pub replyTo : Wait → Core → HvcReply → CoreStep
+replyTo Nothing core reply = refusedCore NothingWaiting core
+replyTo (Call conduit recipient) core reply =
+    cond (mayReply recipient (reply .kind)) (completeCall conduit core reply) (refusedCore UnknownReplyKind core)
+
+unfoldable pub replyCore : Core → HvcReply → CoreStep
+replyCore core reply = replyTo (core .wait) core reply
+
+-- what a place past the eight reads as: no call gets there
+unfoldable pub noCore : Core
+noCore = record {
+  x = [];
+  elr = 0;
+  spsr = 0;
+  el1 = record { elr = 0; spsr = 0; far = 0; esr = 0 };
+  wait = Nothing;
+}
+
+-- 10: "number above 7"
+abbrev pub noSuchCore : List Core → CoresStep
+noSuchCore cores = record { answer = Refused NoSuchCore; cores = cores }
+
+-- "one core replaced per step"
+abbrev pub placed : List Core → ℕ → CoreStep → CoresStep
+placed cores i step = record { answer = step .answer; cores = set cores i (step .core) }
+
+-- a step of one of the eight
+unfoldable pub onCore : List Core → ℕ → (Core → CoreStep) → CoresStep
+onCore cores i step = cond (ltb 7 i) (noSuchCore cores) (placed cores i (step (getD cores i noCore)))
+
+-- `save`: "save 10, 11"
+unfoldable pub saveOn : List Core → ℕ → List ℕ → ℕ → ℕ → CoresStep
+saveOn cores i x elr spsr = onCore cores i (λ core. saveCore core x elr spsr)
+
+-- `reply`: "reply 10, 14, 15"
+unfoldable pub replyOn : List Core → ℕ → HvcReply → CoresStep
+replyOn cores i reply = onCore cores i (λ core. replyCore core reply)
+
+-- a trap's step, of one of the eight
+abbrev pub trappedBy : TrapStep → Policy → List Core → ℕ → Trapped
+trappedBy step policy cores i = record {
+  answer = step .answer;
+  values = step .values;
+  policy = policy;
+  cores = set cores i (step .core);
+  counter = step .counter;
+}
+
+-- `trap`: "trap 10 to 13"
+unfoldable pub trapOn : Policy → List Core → ℕ → ℕ → TrapRegisters → Trapped
+trapOn policy cores counter i trap =
+    cond (ltb 7 i)
+    (record { answer = trap-answer.Refused NoSuchCore; values = noValues; policy = policy; cores = cores; counter = counter })
+    (trappedBy (handleSyncLower (regionsHeld policy) (getD cores i noCore) counter trap) policy cores i)

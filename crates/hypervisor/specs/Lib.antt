@@ -1,0 +1,5 @@
+-- What the contracts of `hypervisor` cite.
+pub mod Answers
+pub mod DataAbort
+pub mod Trap
+pub mod Cores
