@@ -3,6 +3,8 @@ use Prim.Native.Nat.{ℕ}
 use mathlib.Core.List.{List}
 use lib.ListN.{replicate}
 use Rattle.memory_access.specs.declared.MemoryAccessKind.the-variants.{Read, Write}
+use Rattle.data_abort.specs.declared.AbortAnswer.{AbortAnswer}
+use Rattle.data_abort.specs.declared.AbortAnswer.the-variants as abort
 use Rattle.exceptions.specs.declared.Core.{Core}
 use Rattle.exceptions.specs.declared.Recipient.the-variants.{Firmware, Platform}
 use Rattle.hypervisor.specs.declared.CoreError.{CoreError}
@@ -43,6 +45,12 @@ trapKind AbortInjected = 3
 trapKind (Forwarded Firmware) = 4
 trapKind (Forwarded Platform) = 5
 trapKind (Refused error) = 0
+
+-- a data abort's answer among a trap's
+abbrev pub abortAnswer : AbortAnswer → TrapAnswer
+abortAnswer (abort.Handled kind) = AccessHandled kind
+abortAnswer abort.Injected = AbortInjected
+abortAnswer abort.NoGuestVector = Refused NoGuestVector
 
 -- "every other result field 0": the values of an answer that has none
 abbrev pub noValues : List ℕ

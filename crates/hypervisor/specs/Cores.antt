@@ -4,6 +4,8 @@ use mathlib.Core.Bool.{Bool, true, cond, _||_}
 use mathlib.Core.List.{List, []}
 use lib.Dec.{eqb, ltb}
 use lib.ListN.{getD, set, replicate}
+use Rattle.data_abort.specs.declared.TrapRegisters.{TrapRegisters}
+use Rattle.data_abort.specs.DataAbort.{advanced}
 use Rattle.exceptions.specs.declared.Core.{Core}
 use Rattle.exceptions.specs.declared.Conduit.{Conduit}
 use Rattle.exceptions.specs.declared.Conduit.the-variants.{Hvc, Smc}
@@ -22,12 +24,10 @@ use Rattle.hypervisor.specs.declared.CoreError.the-variants.{NoSuchCore,
 use Rattle.hypervisor.specs.declared.CoreStep.{CoreStep}
 use Rattle.hypervisor.specs.declared.CoresStep.{CoresStep}
 use Rattle.hypervisor.specs.declared.HvcReply.{HvcReply}
-use Rattle.hypervisor.specs.declared.TrapRegisters.{TrapRegisters}
 use Rattle.hypervisor.specs.declared.TrapAnswer.the-variants as trap-answer
 use Rattle.hypervisor.specs.declared.TrapStep.{TrapStep}
 use Rattle.hypervisor.specs.declared.Trapped.{Trapped}
 use Rattle.hypervisor.specs.Answers.{noValues, refusedCore}
-use Rattle.hypervisor.specs.DataAbort.{advanced}
 use Rattle.hypervisor.specs.Trap.{waits, withWait, handleSyncLower}
 
 -- "There are 8 cores", each fresh

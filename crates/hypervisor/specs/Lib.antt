@@ -1,5 +1,4 @@
 -- What the contracts of `hypervisor` cite.
 pub mod Answers
-pub mod DataAbort
 pub mod Trap
 pub mod Cores

@@ -6,6 +6,8 @@ use lib.Dec.{eqb, leb}
 use lib.ListN.{take, getD, replicate}
 use Rattle.memory_access.specs.Syndrome.{bitsAt}
 use Rattle.stage2_range.specs.declared.MemoryAccessRegion.{MemoryAccessRegion}
+use Rattle.data_abort.specs.declared.TrapRegisters.{TrapRegisters}
+use Rattle.data_abort.specs.DataAbort.{handleDataAbort}
 use Rattle.exceptions.specs.declared.Core.{Core}
 use Rattle.exceptions.specs.declared.Conduit.{Conduit}
 use Rattle.exceptions.specs.declared.Conduit.the-variants.{Hvc, Smc}
@@ -16,11 +18,9 @@ use Rattle.exceptions.specs.declared.Wait.the-variants.{Nothing, Call}
 use Rattle.hypervisor.specs.declared.CoreError.the-variants.{CoreWaiting, UnexpectedExceptionClass}
 use Rattle.hypervisor.specs.declared.ExceptionClass.{ExceptionClass}
 use Rattle.hypervisor.specs.declared.ExceptionClass.the-variants.{HvcTrappedInAArch64, SmcTrappedInAArch64, DataAbortLowerEl, Unknown}
-use Rattle.hypervisor.specs.declared.TrapRegisters.{TrapRegisters}
 use Rattle.hypervisor.specs.declared.TrapAnswer.the-variants.{Forwarded}
 use Rattle.hypervisor.specs.declared.TrapStep.{TrapStep}
-use Rattle.hypervisor.specs.Answers.{refused}
-use Rattle.hypervisor.specs.DataAbort.{handleDataAbort}
+use Rattle.hypervisor.specs.Answers.{abortAnswer, answered, refused}
 
 -- "EC is ESR bits 31:26"
 abbrev pub ec : ℕ → ℕ
@@ -71,7 +71,9 @@ forwardCall core counter conduit =
 unfoldable pub byClass : ExceptionClass → List MemoryAccessRegion → Core → ℕ → TrapRegisters → TrapStep
 byClass HvcTrappedInAArch64 regions core counter trap = forwardCall core counter Hvc
 byClass SmcTrappedInAArch64 regions core counter trap = forwardCall core counter Smc
-byClass DataAbortLowerEl regions core counter trap = handleDataAbort regions core counter trap
+byClass DataAbortLowerEl regions core counter trap =
+    let step = handleDataAbort regions core counter trap in
+    answered (abortAnswer (step .answer)) (step .core) (step .counter)
 byClass Unknown regions core counter trap = refused UnexpectedExceptionClass core counter
 
 -- a core waits

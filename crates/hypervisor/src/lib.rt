@@ -3,40 +3,20 @@ ghost use mathlib.Core.Path.{_≡_};
 ghost use Prim.Native.Nat.{_≤_, _<_};
 ghost use lib.ListN.{replicate};
 ghost use Rattle.lists.specs.Lists.{held};
-ghost use Rattle.exceptions.specs.Registers.{readGpr, readValue};
-ghost use Rattle.hypervisor.specs.Answers.{errorNumber, coreNumber, trapNumber, trapKind, answered, refused, refusedCore};
-ghost use Rattle.hypervisor.specs.DataAbort.{advanced, unhandled, readThrough, writeThrough, accessIn, tryMemoryAccess, withEc, injectDataAbort, handleDataAbort};
+ghost use Rattle.hypervisor.specs.Answers.{errorNumber, coreNumber, trapNumber, trapKind, abortAnswer, answered, refused, refusedCore};
 ghost use Rattle.hypervisor.specs.Trap.{exceptionClass, recipientOf, registersFor, forwardedValues, withWait, forwardCall, byClass, handleSyncLower};
 ghost use Rattle.hypervisor.specs.Cores.{freshCores, saveCore, mayReply, resumed, completeCall, replyCore, noSuchCore, placed, saveOn, replyOn, trapOn};
+use data_abort::AbortAnswer;
+use data_abort::TrapRegisters;
 use exceptions::Conduit;
 use exceptions::Core;
-use exceptions::FaultRegisters;
-use exceptions::GprRead;
 use exceptions::Recipient;
 use exceptions::Wait;
 use hvc_response::HvcResult;
 use hvc_response::HvcResultKind;
-use memory_access::Decoded;
-use memory_access::Fipa;
-use memory_access::MemoryAccess;
 use memory_access::MemoryAccessKind;
 use stage2::Policy;
-use stage2_range::MemoryAccessHandlerMatch;
 use stage2_range::MemoryAccessRegion;
-use stage2_range::MemoryHandler;
-use stage2_range::MemoryReadAccess;
-use stage2_range::MemoryReadResult;
-use stage2_range::MemoryWriteAccess;
-use stage2_range::MemoryWriteResult;
-use stage2_range::RegionFound;
-
-// What the hardware says of a trap: ESR_EL2, the FIPA of HPFAR_EL2, FAR_EL2, and the guest's VBAR_EL1.
-pub struct TrapRegisters {
-    pub esr: u64,
-    pub fipa: Fipa,
-    pub far: u64,
-    pub vbar: u64,
-}
 
 // The host's answer to a forwarded call: its kind, the values that the kind uses from the first on, and the error.
 pub struct HvcReply {
@@ -214,7 +194,10 @@ fn dispatch(
         ExceptionClass::HvcTrappedInAArch64 => forward_call(core, counter, Conduit::Hvc),
         ExceptionClass::SmcTrappedInAArch64 => forward_call(core, counter, Conduit::Smc),
         ExceptionClass::DataAbortLowerEl => {
-            handle_data_abort(regions, region_count, core, counter, trap)
+            let step = data_abort::handle_data_abort(regions, region_count, core, counter, trap);
+            let answer = step.answer;
+            let next = step.core;
+            without_values(abort_answer(answer), next, step.counter)
         }
         ExceptionClass::Unknown => refuse(CoreError::UnexpectedExceptionClass, core, counter),
     }
@@ -224,10 +207,6 @@ fn dispatch(
 const ESR_EC_SHIFT: u64 = 26;
 
 const ESR_EC_MASK: u64 = 0x3F;
-
-const ESR_ISS_MASK: u64 = 0x1FF_FFFF;
-
-const EC_DATA_ABORT_SAME_EL: u64 = 0x25;
 
 enum ExceptionClass {
     HvcTrappedInAArch64,
@@ -244,6 +223,16 @@ fn exception_class(esr: u64) -> ExceptionClass
         0x17 => ExceptionClass::SmcTrappedInAArch64,
         0x24 => ExceptionClass::DataAbortLowerEl,
         _ => ExceptionClass::Unknown,
+    }
+}
+
+fn abort_answer(answer: AbortAnswer) -> TrapAnswer
+    ensures { λ r. ⌜ r ≡ abortAnswer answer ⌝ }
+{
+    match answer {
+        AbortAnswer::Handled(kind) => TrapAnswer::AccessHandled(kind),
+        AbortAnswer::Injected => TrapAnswer::AbortInjected,
+        AbortAnswer::NoGuestVector => TrapAnswer::Refused(CoreError::NoGuestVector),
     }
 }
 
@@ -306,221 +295,6 @@ fn wait_for(core: Core, wait: Wait) -> Core
         el1,
         wait,
     }
-}
-
-fn handle_data_abort(
-    regions: [MemoryAccessRegion; 16],
-    region_count: u64,
-    core: Core,
-    counter: u64,
-    trap: TrapRegisters,
-) -> TrapStep
-    ensures { λ r. ⌜ r ≡ handleDataAbort (held 16 «region_count» regions) core counter trap ⌝ }
-{
-    let access = try_memory_access_handler(regions, region_count, core, counter, trap);
-    let outcome = access.outcome;
-    let next = access.core;
-    match outcome {
-        AccessOutcome::Handled(kind) => {
-            without_values(TrapAnswer::AccessHandled(kind), next, access.counter)
-        }
-        AccessOutcome::Unhandled => inject_data_abort(core, counter, trap),
-    }
-}
-
-// What comes of the access that a data abort describes.
-enum AccessOutcome {
-    Handled(MemoryAccessKind),
-    Unhandled,
-}
-
-struct Accessed {
-    outcome: AccessOutcome,
-    core: Core,
-    counter: u64,
-}
-
-fn unhandled(core: Core, counter: u64) -> Accessed
-    ensures { λ r. ⌜ r ≡ unhandled core counter ⌝ }
-{
-    Accessed {
-        outcome: AccessOutcome::Unhandled,
-        core,
-        counter,
-    }
-}
-
-fn try_memory_access_handler(
-    regions: [MemoryAccessRegion; 16],
-    region_count: u64,
-    core: Core,
-    counter: u64,
-    trap: TrapRegisters,
-) -> Accessed
-    ensures { λ r. ⌜ r ≡ tryMemoryAccess (held 16 «region_count» regions) core counter trap ⌝ }
-{
-    let iss = (trap.esr & ESR_ISS_MASK) as u32;
-    let fipa = trap.fipa;
-    match MemoryAccess::decode(iss, fipa, trap.far) {
-        Decoded::Access(access) => {
-            let ipa = access.ipa;
-            match stage2_range::find_region(regions, region_count, ipa) {
-                RegionFound::Match(found) => access_in(found, access, core, counter),
-                RegionFound::Nothing => unhandled(core, counter),
-            }
-        }
-        Decoded::NoSyndrome => unhandled(core, counter),
-    }
-}
-
-// The access to a region, through the handler for its direction.
-fn access_in(
-    found: MemoryAccessHandlerMatch,
-    access: MemoryAccess,
-    core: Core,
-    counter: u64,
-) -> Accessed
-    ensures { λ r. ⌜ r ≡ accessIn (access .kind) found access core counter ⌝ }
-{
-    let region = found.region;
-    let handler = region.handler;
-    let kind = access.kind;
-    match kind {
-        MemoryAccessKind::Read => {
-            let read = handler.read;
-            read_through(read, access, found.offset, core, counter)
-        }
-        MemoryAccessKind::Write => {
-            let write = handler.write;
-            write_through(write, access, found.offset, core, counter)
-        }
-    }
-}
-
-fn read_through(
-    handler: MemoryHandler,
-    access: MemoryAccess,
-    offset: u64,
-    core: Core,
-    counter: u64,
-) -> Accessed
-    ensures { λ r. ⌜ r ≡ readThrough handler access offset core counter ⌝ }
-{
-    let ipa = access.ipa;
-    let width = access.width;
-    match handler {
-        MemoryHandler::Absent => unhandled(core, counter),
-        MemoryHandler::FilteredMmio => {
-            let read = qemu::read_filtered_mmio(MemoryReadAccess { ipa, offset, width }, counter);
-            let result = read.result;
-            match result {
-                MemoryReadResult::Value(value) => {
-                    let written = core.write_gpr(
-                        access.register_index,
-                        access.extend_read_result(value),
-                    );
-                    let next = written.core;
-                    Accessed {
-                        outcome: AccessOutcome::Handled(MemoryAccessKind::Read),
-                        core: advance_guest_pc(next),
-                        counter: read.counter,
-                    }
-                }
-                MemoryReadResult::Fault => unhandled(core, counter),
-            }
-        }
-    }
-}
-
-fn write_through(
-    handler: MemoryHandler,
-    access: MemoryAccess,
-    offset: u64,
-    core: Core,
-    counter: u64,
-) -> Accessed
-    ensures { λ r. ⌜ r ≡ writeThrough handler access offset core counter ⌝ }
-{
-    let ipa = access.ipa;
-    let width = access.width;
-    match handler {
-        MemoryHandler::Absent => unhandled(core, counter),
-        MemoryHandler::FilteredMmio => {
-            let value = access.store_value(register_value(core, access.register_index));
-            let write = MemoryWriteAccess {
-                ipa,
-                offset,
-                width,
-                value,
-            };
-            match qemu::write_filtered_mmio(write) {
-                MemoryWriteResult::Handled => Accessed {
-                    outcome: AccessOutcome::Handled(MemoryAccessKind::Write),
-                    core: advance_guest_pc(core),
-                    counter,
-                },
-                MemoryWriteResult::Fault => unhandled(core, counter),
-            }
-        }
-    }
-}
-
-// A register's value. Decode names none above 31, which would read as 0 here.
-fn register_value(core: Core, index: usize) -> u64
-    ensures { λ r. ⌜ r ≡ readValue (readGpr core index) ⌝ }
-{
-    match core.read_gpr(index) {
-        GprRead::Value(value) => value,
-        GprRead::NoSuchRegister => 0,
-    }
-}
-
-const AARCH64_INSTRUCTION_LENGTH: u64 = 4;
-
-fn advance_guest_pc(core: Core) -> Core
-    ensures { λ r. ⌜ r ≡ advanced core ⌝ }
-{
-    let mut next = core;
-    next.elr = std::num::wrapping_add_u64(core.elr, AARCH64_INSTRUCTION_LENGTH);
-    next
-}
-
-// The vector "Current EL with SPx, Synchronous" stands this far above VBAR_EL1 (Arm DDI 0487).
-const SYNC_SPX_OFFSET: u64 = 0x200;
-
-// PSTATE on entry to it: D, A, I and F set, EL1h.
-const SPSR_MASKED_EL1H: u64 = 0x3C5;
-
-fn inject_data_abort(core: Core, counter: u64, trap: TrapRegisters) -> TrapStep
-    ensures { λ r. ⌜ r ≡ injectDataAbort core counter trap ⌝ }
-{
-    if trap.vbar == 0 {
-        return refuse(CoreError::NoGuestVector, core, counter);
-    }
-    let x = core.x;
-    let wait = core.wait;
-    let el1 = FaultRegisters {
-        elr: core.elr,
-        spsr: core.spsr,
-        far: trap.far,
-        esr: same_el_syndrome(trap.esr),
-    };
-    let next = Core {
-        x,
-        elr: std::num::wrapping_add_u64(trap.vbar, SYNC_SPX_OFFSET),
-        spsr: SPSR_MASKED_EL1H,
-        el1,
-        wait,
-    };
-    without_values(TrapAnswer::AbortInjected, next, counter)
-}
-
-// EL2 sees the abort as coming from a lower EL, but the guest handles it at EL1.
-fn same_el_syndrome(esr: u64) -> u64
-    ensures { λ r. ⌜ r ≡ withEc esr 0x25 ⌝ }
-{
-    (esr & (0xFFFF_FFFF_FFFF_FFFF - (ESR_EC_MASK << ESR_EC_SHIFT)))
-        | (EC_DATA_ABORT_SAME_EL << ESR_EC_SHIFT)
 }
 
 fn refuse_core(error: CoreError, core: Core) -> CoreStep
@@ -602,7 +376,7 @@ fn resume(core: Core, conduit: Conduit) -> Core
 {
     match conduit {
         Conduit::Hvc => wait_for(core, Wait::Nothing),
-        Conduit::Smc => wait_for(advance_guest_pc(core), Wait::Nothing),
+        Conduit::Smc => wait_for(data_abort::advance_guest_pc(core), Wait::Nothing),
     }
 }
 

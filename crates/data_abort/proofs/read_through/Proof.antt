@@ -1,7 +1,7 @@
-use Rattle.hypervisor.specs.DataAbort.{readThrough}
+use Rattle.data_abort.specs.DataAbort.{readThrough}
 use borrow.Author.Needs.{needs}
-use Rattle.hypervisor.proofs.read_through.Statement.{statement}
-use Rattle.hypervisor.proofs.read_through.Tie as tie
+use Rattle.data_abort.proofs.read_through.Statement.{statement}
+use Rattle.data_abort.proofs.read_through.Tie as tie
 
 enum-told : tie.Need-enum-told
 enum-told c = search needs

@@ -1,7 +1,7 @@
-use Rattle.hypervisor.specs.DataAbort.{writeThrough}
+use Rattle.data_abort.specs.DataAbort.{writeThrough}
 use borrow.Author.Needs.{needs}
-use Rattle.hypervisor.proofs.write_through.Statement.{statement}
-use Rattle.hypervisor.proofs.write_through.Tie as tie
+use Rattle.data_abort.proofs.write_through.Statement.{statement}
+use Rattle.data_abort.proofs.write_through.Tie as tie
 
 enum-told : tie.Need-enum-told
 enum-told c = search needs

@@ -1,7 +1,7 @@
-use Rattle.hypervisor.specs.DataAbort.{advanced}
+use Rattle.data_abort.specs.DataAbort.{advanced}
 use borrow.Author.Needs.{needs}
-use Rattle.hypervisor.proofs.advance_guest_pc.Statement.{statement}
-use Rattle.hypervisor.proofs.advance_guest_pc.Tie as tie
+use Rattle.data_abort.proofs.advance_guest_pc.Statement.{statement}
+use Rattle.data_abort.proofs.advance_guest_pc.Tie as tie
 
 wrapping-add-u64-requires : tie.Need-wrapping-add-u64-requires
 wrapping-add-u64-requires c κs = search needs

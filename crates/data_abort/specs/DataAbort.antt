@@ -24,14 +24,13 @@ use Rattle.stage2_range.specs.Registry.{findRegion}
 use Rattle.exceptions.specs.declared.Core.{Core}
 use Rattle.exceptions.specs.Registers.{readGpr, readValue, writeGpr}
 use Rattle.qemu.specs.FilteredMmio.{readFilteredMmio, writeFilteredMmio}
-use Rattle.hypervisor.specs.declared.AccessOutcome.{AccessOutcome}
-use Rattle.hypervisor.specs.declared.AccessOutcome.the-variants.{Handled, Unhandled}
-use Rattle.hypervisor.specs.declared.Accessed.{Accessed}
-use Rattle.hypervisor.specs.declared.CoreError.the-variants.{NoGuestVector}
-use Rattle.hypervisor.specs.declared.TrapRegisters.{TrapRegisters}
-use Rattle.hypervisor.specs.declared.TrapAnswer.the-variants.{AccessHandled, AbortInjected}
-use Rattle.hypervisor.specs.declared.TrapStep.{TrapStep}
-use Rattle.hypervisor.specs.Answers.{answered, refused}
+use Rattle.data_abort.specs.declared.AbortAnswer.{AbortAnswer}
+use Rattle.data_abort.specs.declared.AbortAnswer.the-variants as abort
+use Rattle.data_abort.specs.declared.AbortStep.{AbortStep}
+use Rattle.data_abort.specs.declared.AccessOutcome.{AccessOutcome}
+use Rattle.data_abort.specs.declared.AccessOutcome.the-variants.{Handled, Unhandled}
+use Rattle.data_abort.specs.declared.Accessed.{Accessed}
+use Rattle.data_abort.specs.declared.TrapRegisters.{TrapRegisters}
 
 -- "ISS bits 24:0" of ESR
 abbrev pub iss : ℕ → ℕ
@@ -114,17 +113,23 @@ injected core trap = record {
 }
 
 -- 13: "an injection is due and VBAR is 0"
-unfoldable pub injectDataAbort : Core → ℕ → TrapRegisters → TrapStep
+unfoldable pub injectDataAbort : Core → ℕ → TrapRegisters → AbortStep
 injectDataAbort core counter trap =
-    cond (eqb (trap .vbar) 0) (refused NoGuestVector core counter)
-    (answered AbortInjected (injected core trap) counter)
+    cond (eqb (trap .vbar) 0) (record { answer = abort.NoGuestVector; core = core; counter = counter })
+    (record { answer = abort.Injected; core = injected core trap; counter = counter })
 
 -- a handled access answers; "No ISV, no region, an absent half or a device fault injects"
-abbrev pub abortDone : AccessOutcome → Accessed → TrapStep → TrapStep
-abortDone (Handled kind) accessed injection = answered (AccessHandled kind) (accessed .core) (accessed .counter)
+abbrev pub abortDone : AccessOutcome → Accessed → AbortStep → AbortStep
+abortDone (Handled kind) accessed injection = record { answer = abort.Handled kind; core = accessed .core; counter = accessed .counter }
 abortDone Unhandled accessed injection = injection
 
-unfoldable pub handleDataAbort : List MemoryAccessRegion → Core → ℕ → TrapRegisters → TrapStep
+unfoldable pub handleDataAbort : List MemoryAccessRegion → Core → ℕ → TrapRegisters → AbortStep
 handleDataAbort regions core counter trap =
     let accessed = tryMemoryAccess regions core counter trap in
     abortDone (accessed .outcome) accessed (injectDataAbort core counter trap)
+
+-- the number of an answer in document 01's table
+abbrev pub abortNumber : AbortAnswer → ℕ
+abortNumber (abort.Handled kind) = 0
+abortNumber abort.Injected = 0
+abortNumber abort.NoGuestVector = 13

@@ -1,10 +1,10 @@
 use native.Mathlib.Omega.{arith}
 use lib.Bits.{mask-lt}
 use Rattle.memory_access.proofs.Laws.{low}
-use Rattle.hypervisor.specs.DataAbort.{tryMemoryAccess}
+use Rattle.data_abort.specs.DataAbort.{tryMemoryAccess}
 use borrow.Author.Needs.{needs}
-use Rattle.hypervisor.proofs.try_memory_access_handler.Statement.{statement}
-use Rattle.hypervisor.proofs.try_memory_access_handler.Tie as tie
+use Rattle.data_abort.proofs.try_memory_access_handler.Statement.{statement}
+use Rattle.data_abort.proofs.try_memory_access_handler.Tie as tie
 
 cast-iss : tie.Need-cast-iss
 cast-iss c = omega (arith, mask-lt (c .before .args .trap .esr) 25)

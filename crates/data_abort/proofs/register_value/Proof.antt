@@ -1,6 +1,6 @@
 use borrow.Author.Needs.{needs}
-use Rattle.hypervisor.proofs.register_value.Statement.{statement}
-use Rattle.hypervisor.proofs.register_value.Tie as tie
+use Rattle.data_abort.proofs.register_value.Statement.{statement}
+use Rattle.data_abort.proofs.register_value.Tie as tie
 
 read-gpr-requires : tie.Need-read-gpr-requires
 read-gpr-requires c κs = search needs

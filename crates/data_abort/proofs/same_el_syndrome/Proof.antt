@@ -1,8 +1,8 @@
 use native.Mathlib.Omega.{arith}
-use Rattle.hypervisor.proofs.Laws.{ec-replaced}
+use Rattle.data_abort.proofs.Laws.{ec-replaced}
 use borrow.Author.Needs.{needs}
-use Rattle.hypervisor.proofs.same_el_syndrome.Statement.{statement}
-use Rattle.hypervisor.proofs.same_el_syndrome.Tie as tie
+use Rattle.data_abort.proofs.same_el_syndrome.Statement.{statement}
+use Rattle.data_abort.proofs.same_el_syndrome.Tie as tie
 
 sub-result : tie.Need-sub-result
 sub-result c = search needs

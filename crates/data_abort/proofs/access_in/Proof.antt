@@ -1,7 +1,7 @@
-use Rattle.hypervisor.specs.DataAbort.{accessIn}
+use Rattle.data_abort.specs.DataAbort.{accessIn}
 use borrow.Author.Needs.{needs}
-use Rattle.hypervisor.proofs.access_in.Statement.{statement}
-use Rattle.hypervisor.proofs.access_in.Tie as tie
+use Rattle.data_abort.proofs.access_in.Statement.{statement}
+use Rattle.data_abort.proofs.access_in.Tie as tie
 
 enum-told : tie.Need-enum-told
 enum-told c = search needs

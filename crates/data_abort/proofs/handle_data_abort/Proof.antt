@@ -1,16 +1,13 @@
-use Rattle.hypervisor.specs.DataAbort.{handleDataAbort}
+use Rattle.data_abort.specs.DataAbort.{handleDataAbort}
 use borrow.Author.Needs.{needs}
-use Rattle.hypervisor.proofs.handle_data_abort.Statement.{statement}
-use Rattle.hypervisor.proofs.handle_data_abort.Tie as tie
+use Rattle.data_abort.proofs.handle_data_abort.Statement.{statement}
+use Rattle.data_abort.proofs.handle_data_abort.Tie as tie
 
 try-memory-access-handler-requires : tie.Need-try-memory-access-handler-requires
 try-memory-access-handler-requires c κs = search needs
 
 enum-known-outcome : tie.Need-enum-known-outcome
 enum-known-outcome c = search needs
-
-without-values-requires : tie.Need-without-values-requires
-without-values-requires c κs = search needs
 
 enum-told : tie.Need-enum-told
 enum-told c = search needs
@@ -20,7 +17,7 @@ inject-data-abort-requires c κs = search needs
 
 returns : tie.Need-returns
 unfolding handleDataAbort
-returns c = rw (c .without-values .ensures, ← c .before .before .before .before .before .try-memory-access-handler .ensures, c .before .before .outcome .given .1)
+returns c = rw (← c .before .before .before .before .try-memory-access-handler .ensures, c .before .outcome .given .1)
 
 returns-2 : tie.Need-returns-2
 unfolding handleDataAbort
@@ -32,7 +29,6 @@ handle-data-abort-spec =
     (tie.spec
     try-memory-access-handler-requires
     enum-known-outcome
-    without-values-requires
     enum-told
     inject-data-abort-requires
     returns

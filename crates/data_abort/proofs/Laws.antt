@@ -1,0 +1,32 @@
+-- Laws on a data abort. Assumes nothing.
+use Prim.Native.Nat.{ℕ, _+_, _*_, _/_, _%_, _^_, _-_, _<_}
+use mathlib.Core.Path.{_≡_, ap, ap₂, sym, _∙_}
+use native.Mathlib.Nat.{mod-lt}
+use native.Mathlib.Omega.{arith}
+use lib.Bits.{bitAnd, bitOr, and-mask, and-block, or-block, or-zero-r, or-shifted-r}
+use lib.Dec.{lit<}
+use lib.Pow.{split, pow-pos}
+use Rattle.data_abort.specs.DataAbort.{withEc}
+
+-- a mask clears bits 31:26
+ec-cleared : (e : ℕ) → e < 2 ^ 64 → bitAnd e (2 ^ 64 - 1 - 0x3F * 2 ^ 26) ≡ e / 2 ^ 32 * 2 ^ 32 + e % 2 ^ 26
+ec-cleared e h =
+    let hi : e / 2 ^ 32 % 2 ^ 32 ≡ e / 2 ^ 32 = omega arith in
+    let lo : e % 2 ^ 32 % 2 ^ 26 ≡ e % 2 ^ 26 = omega arith in
+    ap (λ (x : ℕ). bitAnd x (2 ^ 64 - 1 - 0x3F * 2 ^ 26)) (sym (split e 32))
+    ∙ and-block 32 (e / 2 ^ 32) (2 ^ 32 - 1) (e % 2 ^ 32) (2 ^ 26 - 1) (mod-lt e (pow-pos 32)) (lit< tt)
+    ∙ ap₂ (λ (x y : ℕ). x * 2 ^ 32 + y) (and-mask (e / 2 ^ 32) 32 ∙ hi) (and-mask (e % 2 ^ 32) 26 ∙ lo)
+
+-- a class is put there
+ec-placed : (high low : ℕ) → low < 2 ^ 26 → bitOr (high * 2 ^ 32 + low) (0x25 * 2 ^ 26) ≡ high * 2 ^ 32 + 0x25 * 2 ^ 26 + low
+ec-placed high low h =
+    let e : high * 2 ^ 32 + (0x25 * 2 ^ 26 + low) ≡ high * 2 ^ 32 + 0x25 * 2 ^ 26 + low = omega arith in
+    or-block 32 high 0 low (0x25 * 2 ^ 26) (omega arith) (lit< tt)
+    ∙ ap₂ (λ (x y : ℕ). x * 2 ^ 32 + y) (or-zero-r high) (or-shifted-r 0x25 26 low h)
+    ∙ e
+
+pub ec-replaced : (e : ℕ) → e < 2 ^ 64 → bitOr (bitAnd e (2 ^ 64 - 1 - 0x3F * 2 ^ 26)) (0x25 * 2 ^ 26) ≡ withEc e 0x25
+unfolding withEc
+ec-replaced e h =
+    ap (λ (x : ℕ). bitOr x (0x25 * 2 ^ 26)) (ec-cleared e h)
+    ∙ ec-placed (e / 2 ^ 32) (e % 2 ^ 26) (mod-lt e (pow-pos 26))

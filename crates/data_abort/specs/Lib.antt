@@ -1,0 +1,2 @@
+-- What the contracts of `data_abort` cite.
+pub mod DataAbort
