@@ -1,7 +1,7 @@
 -- Laws on the definitions of `specs/`, and on the loops that compute them over the first `m` elements of a list. Assumes nothing.
 use Prim.Native.Nat.{ℕ, suc, _+_, _≤_, _<_, min}
 use mathlib.Core.Path.{_≡_, refl, sym, _∙_, ap}
-use mathlib.Core.Bool.{Bool, true, false, _||_, cond, or-true, true≢false}
+use mathlib.Core.Bool.{Bool, true, false, _&&_, _||_, cond, or-true, true≢false}
 use mathlib.Core.List.{List, [], _∷_, _++_, map, List·Memᴰ, List·Memᴰ·head, List·Memᴰ·tail, List·Memᴰ·not-nil, List·Memᴰ·cases-cons, Memᴰ·append-right, append-assoc}
 use mathlib.Core.Logic.{_⊎_, inl, inr}
 use native.Mathlib.Omega.{arith}
@@ -373,3 +373,8 @@ inserted-all P fits y l h k x m = go (inserted-or-old fits y l x m)
     go : (x ≡ y) ⊎ List·Memᴰ x l → P x
     go (inl e) = rw e h
     go (inr m′) = k x m′
+
+-- where two tests hold together, each holds
+pub both-true : (a b : Bool) → (a && b) ≡ true → (a ≡ true) × (b ≡ true)
+both-true true b e = (refl, e)
+both-true false b e = absurd (true≢false (sym e))

@@ -22,6 +22,11 @@ pub field : (x k n : ℕ) → bitAnd (x / 2 ^ k) (2 ^ n - 1) ≡ bitsAt x k n
 unfolding bitsAt
 field x k n = and-mask (x / 2 ^ k) n
 
+-- a field of `n` bits is below 2 ^ n
+pub field-fits : (x k n : ℕ) → bitsAt x k n < 2 ^ n
+unfolding bitsAt
+field-fits x k n = mod-lt (x / 2 ^ k) (pow-pos n)
+
 -- `x & (2^w - 1)`
 pub low : (x w : ℕ) → bitAnd x (2 ^ w - 1) ≡ lowBits w x
 unfolding lowBits

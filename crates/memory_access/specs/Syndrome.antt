@@ -11,6 +11,7 @@ use Rattle.memory_access.specs.declared.MemoryAccessWidth.{MemoryAccessW
 use Rattle.memory_access.specs.declared.MemoryAccessWidth.the-variants.{U8, U16, U32, U64}
 use Rattle.memory_access.specs.declared.MemoryAccessKind.{MemoryAccessKind}
 use Rattle.memory_access.specs.declared.MemoryAccessKind.the-variants.{Read, Write}
+use Rattle.memory_access.specs.declared.MemoryAccess.{MemoryAccess}
 use Rattle.memory_access.specs.declared.Decoded.{Decoded}
 use Rattle.memory_access.specs.declared.Decoded.the-variants.{Access, NoSyndrome}
 
@@ -66,19 +67,20 @@ kindOf false = Read
 unfoldable pub faultIpa : Fipa → ℕ → Ipa
 faultIpa fipa far = record { 0 = fipa .0 % 2 ^ 52 * 4096 + far % 4096 }
 
--- "ISV clear refuses"; else the access, field by field. The register is named, not read.
+-- the access that a valid syndrome describes, field by field. The register is named, not read.
+abbrev pub accessOf : ℕ → Fipa → ℕ → MemoryAccess
+accessOf iss fipa far = record {
+  ipa = faultIpa fipa far;
+  width = widthOf (sas iss);
+  kind = kindOf (wnr iss);
+  «register_index» = srt iss;
+  «sign_extend» = sse iss;
+  «register_width_64» = sf iss;
+}
+
+-- "ISV clear refuses"
 unfoldable pub decodeAccess : ℕ → Fipa → ℕ → Decoded
-decodeAccess iss fipa far =
-    cond (isv iss)
-    (Access (record {
-      ipa = faultIpa fipa far;
-      width = widthOf (sas iss);
-      kind = kindOf (wnr iss);
-      «register_index» = srt iss;
-      «sign_extend» = sse iss;
-      «register_width_64» = sf iss;
-    }))
-    NoSyndrome
+decodeAccess iss fipa far = cond (isv iss) (Access (accessOf iss fipa far)) NoSyndrome
 
 -- the number of an answer in document 01's table
 abbrev pub numberOf : Decoded → ℕ

@@ -1,7 +1,7 @@
 -- Laws on the searches of the regions and on the registry. Assumes nothing.
 use Prim.Native.Nat.{ℕ, _+_, _-_, _≤_, _<_, min}
 use mathlib.Core.Path.{_≡_, refl, sym, _∙_, ap}
-use mathlib.Core.Bool.{Bool, true, false, _&&_, true≢false}
+use mathlib.Core.Bool.{Bool, true, false, true≢false}
 use mathlib.Core.List.{List, _∷_, _++_, List·Memᴰ}
 use native.Mathlib.Omega.{arith}
 use native.Mathlib.Numerals.{add-one}
@@ -10,7 +10,7 @@ use lib.Dec.{ltb, leb}
 use lib.ListN.{length, take, drop, getD}
 use lib.Seq.{length-take-le, getD-take, take-at, drop-at}
 use Rattle.lists.specs.Lists.{held, firstIndex, insertBefore, insertAt, Ascending}
-use Rattle.lists.proofs.Laws.{length-held, held-within, any-at, first-at, first-missing, index-le, index-fits, first-none, none-first, length-insert, insert-at, insert-place, insert-ascending, first-fit, first-member}
+use Rattle.lists.proofs.Laws.{length-held, held-within, any-at, first-at, first-missing, index-le, index-fits, first-none, none-first, length-insert, insert-at, insert-place, insert-ascending, first-fit, first-member, both-true}
 use Rattle.memory_access.specs.declared.Ipa.{Ipa}
 use Rattle.stage2_range.specs.declared.Stage2Result.the-variants.{Accepted, Refused}
 use Rattle.stage2_range.specs.declared.MemoryAccessRegion.{MemoryAccessRegion}
@@ -22,23 +22,15 @@ use Rattle.stage2_range.specs.Registry.{fits, overlapsRegions, findRegio
 use Rattle.stage2_range.specs.Ranges.{sharesByte}
 use Rattle.stage2_range.specs.declared.Stage2ConfigError.the-variants.{TooManyMemoryAccessHandlerRegions, MemoryAccessHandlerRangeOverlap}
 
-both-left : (a b : Bool) → (a && b) ≡ true → a ≡ true
-both-left true b h = refl
-both-left false b h = h
-
-both-right : (a b : Bool) → (a && b) ≡ true → b ≡ true
-both-right true b h = h
-both-right false b h = absurd (true≢false (sym h))
-
 -- a region has an address exactly where "base ≤ IPA < end"
 module _ (ipa : ℕ) (r : MemoryAccessRegion) where
   base-below : fits (Address ipa) r ≡ true → r .«base_ipa» ≤ ipa
   unfolding fits
-  base-below t = leb-true (r .«base_ipa») ipa (both-left (leb (r .«base_ipa») ipa) (ltb ipa (r .«end_ipa»)) t)
+  base-below t = leb-true (r .«base_ipa») ipa (both-true (leb (r .«base_ipa») ipa) (ltb ipa (r .«end_ipa»)) t .0)
 
   end-above : fits (Address ipa) r ≡ true → ipa < r .«end_ipa»
   unfolding fits
-  end-above t = ltb-true ipa (r .«end_ipa») (both-right (leb (r .«base_ipa») ipa) (ltb ipa (r .«end_ipa»)) t)
+  end-above t = ltb-true ipa (r .«end_ipa») (both-true (leb (r .«base_ipa») ipa) (ltb ipa (r .«end_ipa»)) t .1)
 
   pub has-address : r .«base_ipa» ≤ ipa → ipa < r .«end_ipa» → fits (Address ipa) r ≡ true
   unfolding fits
