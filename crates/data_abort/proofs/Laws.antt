@@ -1,12 +1,21 @@
 -- Laws on a data abort. Assumes nothing.
+use mathlib.Core.Bool.{_&&_, cond}
+use mathlib.Core.List.{List}
 use Prim.Native.Nat.{ℕ, _+_, _*_, _/_, _%_, _^_, _-_, _<_}
-use mathlib.Core.Path.{_≡_, ap, ap₂, sym, _∙_}
+use mathlib.Core.Path.{_≡_, refl, ap, ap₂, sym, _∙_}
 use native.Mathlib.Nat.{mod-lt}
 use native.Mathlib.Omega.{arith}
 use lib.Bits.{bitAnd, bitOr, and-mask, and-block, or-block, or-zero-r, or-shifted-r}
-use lib.Dec.{lit<}
+use lib.Dec.{lit<, eqb}
 use lib.Pow.{split, pow-pos}
-use Rattle.data_abort.specs.DataAbort.{withEc}
+use Rattle.memory_access.proofs.Laws.{cond-map}
+use Rattle.stage2_range.specs.declared.MemoryAccessRegion.{MemoryAccessRegion}
+use Rattle.exceptions.specs.declared.Core.{Core}
+use Rattle.data_abort.specs.declared.AbortStep.{AbortStep}
+use Rattle.data_abort.specs.declared.AccessOutcome.{AccessOutcome}
+use Rattle.data_abort.specs.declared.AccessOutcome.the-variants.{Handled, Unhandled}
+use Rattle.data_abort.specs.declared.TrapRegisters.{TrapRegisters}
+use Rattle.data_abort.specs.DataAbort.{tryMemoryAccess, injectDataAbort, abortDone, handleDataAbort, withEc, isUnhandled, injectionDue, abortNumber}
 
 -- a mask clears bits 31:26
 ec-cleared : (e : ℕ) → e < 2 ^ 64 → bitAnd e (2 ^ 64 - 1 - 0x3F * 2 ^ 26) ≡ e / 2 ^ 32 * 2 ^ 32 + e % 2 ^ 26
@@ -30,3 +39,16 @@ unfolding withEc
 ec-replaced e h =
     ap (λ (x : ℕ). bitOr x (0x25 * 2 ^ 26)) (ec-cleared e h)
     ∙ ec-placed (e / 2 ^ 32) (e % 2 ^ 26) (mod-lt e (pow-pos 26))
+
+-- 13 exactly where an injection is due and VBAR is 0
+pub abort-number : (regions : List MemoryAccessRegion) (core : Core) (counter : ℕ) (trap : TrapRegisters)
+    → abortNumber (handleDataAbort regions core counter trap .answer)
+    ≡ cond (injectionDue regions core counter trap && eqb (trap .vbar) 0) 13 0
+unfolding handleDataAbort injectionDue injectDataAbort
+abort-number regions core counter trap = go (tryMemoryAccess regions core counter trap .outcome)
+  where
+    go : (o : AccessOutcome)
+        → abortNumber (abortDone o (tryMemoryAccess regions core counter trap) (injectDataAbort core counter trap) .answer)
+        ≡ cond (isUnhandled o && eqb (trap .vbar) 0) 13 0
+    go (Handled kind) = refl
+    go Unhandled = cond-map (λ (s : AbortStep). abortNumber (s .answer)) (eqb (trap .vbar) 0) _ _

@@ -1,6 +1,6 @@
 -- A data abort: the access is handled, or the guest gets the abort (document 01, "Trap", EC 0x24). Assumes nothing.
 use Prim.Native.Nat.{ℕ, _+_, _*_, _/_, _%_, _^_}
-use mathlib.Core.Bool.{cond}
+use mathlib.Core.Bool.{Bool, true, false, cond}
 use mathlib.Core.List.{List}
 use lib.Dec.{eqb}
 use Rattle.memory_access.specs.declared.MemoryAccess.{MemoryAccess}
@@ -127,6 +127,14 @@ unfoldable pub handleDataAbort : List MemoryAccessRegion → Core → ℕ → Tr
 handleDataAbort regions core counter trap =
     let accessed = tryMemoryAccess regions core counter trap in
     abortDone (accessed .outcome) accessed (injectDataAbort core counter trap)
+
+-- an injection is due: nothing handled the access
+abbrev pub isUnhandled : AccessOutcome → Bool
+isUnhandled (Handled kind) = false
+isUnhandled Unhandled = true
+
+unfoldable pub injectionDue : List MemoryAccessRegion → Core → ℕ → TrapRegisters → Bool
+injectionDue regions core counter trap = isUnhandled (tryMemoryAccess regions core counter trap .outcome)
 
 -- the number of an answer in document 01's table
 abbrev pub abortNumber : AbortAnswer → ℕ

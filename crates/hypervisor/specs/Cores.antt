@@ -1,11 +1,12 @@
 -- Save, reply and trap, on one core and on one of eight (document 01, "Core", "Reply", "Trap"). Assumes nothing.
 use Prim.Native.Nat.{ℕ}
-use mathlib.Core.Bool.{Bool, true, cond, _||_}
-use mathlib.Core.List.{List, []}
+use mathlib.Core.Bool.{Bool, true, false, not, cond, _&&_, _||_}
+use mathlib.Core.List.{List, [], _∷_}
 use lib.Dec.{eqb, ltb}
 use lib.ListN.{getD, set, replicate}
+use Rattle.lists.specs.Refusals.{Case, case}
 use Rattle.data_abort.specs.declared.TrapRegisters.{TrapRegisters}
-use Rattle.data_abort.specs.DataAbort.{advanced}
+use Rattle.data_abort.specs.DataAbort.{advanced, injectionDue}
 use Rattle.exceptions.specs.declared.Core.{Core}
 use Rattle.exceptions.specs.declared.Conduit.{Conduit}
 use Rattle.exceptions.specs.declared.Conduit.the-variants.{Hvc, Smc}
@@ -28,7 +29,7 @@ use Rattle.hypervisor.specs.declared.TrapAnswer.the-variants as trap-ans
 use Rattle.hypervisor.specs.declared.TrapStep.{TrapStep}
 use Rattle.hypervisor.specs.declared.Trapped.{Trapped}
 use Rattle.hypervisor.specs.Answers.{noValues, refusedCore}
-use Rattle.hypervisor.specs.Trap.{waits, withWait, handleSyncLower}
+use Rattle.hypervisor.specs.Trap.{ec, waits, withWait, handleSyncLower}
 
 -- "There are 8 cores", each fresh
 unfoldable pub freshCores : List Core
@@ -114,3 +115,33 @@ trapOn policy cores counter i trap =
     cond (ltb 7 i)
     (record { answer = trap-answer.Refused NoSuchCore; values = noValues; policy = policy; cores = cores; counter = counter })
     (trappedBy (handleSyncLower (regionsHeld policy) (getD cores i noCore) counter trap) policy cores i)
+
+-- the lines of the table that `save` meets, in its order
+abbrev pub saveCases : List Core → ℕ → List Case
+saveCases cores i = case 10 (ltb 7 i) ∷ case 11 (waits (getD cores i noCore .wait)) ∷ []
+
+-- a core waits for the firmware
+abbrev pub waitsForFirmware : Wait → Bool
+waitsForFirmware Nothing = false
+waitsForFirmware (Call conduit Firmware) = true
+waitsForFirmware (Call conduit Platform) = false
+
+-- the lines of the table that `reply` meets, in its order
+abbrev pub replyCases : List Core → ℕ → ℕ → List Case
+replyCases cores i kind =
+    let wait = getD cores i noCore .wait in
+    case 10 (ltb 7 i)
+    ∷ case 14 (not (waits wait))
+    ∷ case 15 (ltb 4 kind || (waitsForFirmware wait && not (eqb kind 1 || eqb kind 4)))
+    ∷ []
+
+-- the lines of the table that `trap` meets, in its order
+abbrev pub trapCases : Policy → List Core → ℕ → ℕ → TrapRegisters → List Case
+trapCases policy cores counter i trap =
+    let core = getD cores i noCore in
+    let class = ec (trap .esr) in
+    case 10 (ltb 7 i)
+    ∷ case 11 (waits (core .wait))
+    ∷ case 12 (not (eqb class 0x16 || eqb class 0x17 || eqb class 0x24))
+    ∷ case 13 (eqb class 0x24 && (injectionDue (regionsHeld policy) core counter trap && eqb (trap .vbar) 0))
+    ∷ []

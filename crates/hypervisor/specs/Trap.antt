@@ -27,12 +27,15 @@ abbrev pub ec : ℕ → ℕ
 ec esr = bitsAt esr 26 6
 
 -- "EC 0x16 (HVC) or 0x17 (SMC)", "EC 0x24", and the others
-unfoldable pub exceptionClass : ℕ → ExceptionClass
-exceptionClass esr =
-    cond (eqb (ec esr) 0x16) HvcTrappedInAArch64
-    (cond (eqb (ec esr) 0x17) SmcTrappedInAArch64
-    (cond (eqb (ec esr) 0x24) DataAbortLowerEl
+abbrev pub classOf : ℕ → ExceptionClass
+classOf ec =
+    cond (eqb ec 0x16) HvcTrappedInAArch64
+    (cond (eqb ec 0x17) SmcTrappedInAArch64
+    (cond (eqb ec 0x24) DataAbortLowerEl
     Unknown))
+
+unfoldable pub exceptionClass : ℕ → ExceptionClass
+exceptionClass esr = classOf (ec esr)
 
 -- a number lies between two others, both included
 abbrev pub between : ℕ → ℕ → ℕ → Bool

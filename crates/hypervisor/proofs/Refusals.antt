@@ -1,0 +1,142 @@
+-- Each call on a core answers the number of the first case that it meets. Assumes nothing.
+use Prim.Native.Nat.{ℕ, zero, suc}
+use mathlib.Core.Path.{_≡_, refl, sym, _∙_, ap}
+use mathlib.Core.Bool.{Bool, true, false, not, cond, _&&_, _||_}
+use mathlib.Core.List.{List, [], _∷_}
+use native.Mathlib.Omega.{arith}
+use borrow.Author.Tests.{lt-ltb, eqb-true}
+use lib.Dec.{eqb, ltb}
+use lib.IntN.{ℤ}
+use lib.ListN.{getD}
+use Rattle.lists.specs.Refusals.{Case, case, firstMet}
+use Rattle.memory_access.proofs.Laws.{cond-map}
+use Rattle.stage2.specs.declared.Policy.{Policy}
+use Rattle.stage2.specs.Policy.{regionsHeld}
+use Rattle.stage2_range.specs.declared.MemoryAccessRegion.{MemoryAccessRegion}
+use Rattle.data_abort.specs.declared.AbortAnswer.{AbortAnswer}
+use Rattle.data_abort.specs.declared.AbortAnswer.the-variants as abort
+use Rattle.data_abort.specs.declared.TrapRegisters.{TrapRegisters}
+use Rattle.data_abort.specs.DataAbort.{abortNumber, injectionDue, handleDataAbort}
+use Rattle.data_abort.proofs.Laws.{abort-number}
+use Rattle.exceptions.specs.declared.Core.{Core}
+use Rattle.exceptions.specs.declared.Conduit.{Conduit}
+use Rattle.exceptions.specs.declared.Recipient.the-variants.{Firmware, Platform}
+use Rattle.exceptions.specs.declared.Wait.{Wait}
+use Rattle.exceptions.specs.declared.Wait.the-variants.{Nothing, Call}
+use Rattle.hvc_response.specs.Response.{resultOfKind}
+use Rattle.hypervisor.specs.declared.CoreStep.{CoreStep}
+use Rattle.hypervisor.specs.declared.CoresStep.{CoresStep}
+use Rattle.hypervisor.specs.declared.ExceptionClass.the-variants.{HvcTrappedInAArch64, SmcTrappedInAArch64, DataAbortLowerEl, Unknown}
+use Rattle.hypervisor.specs.declared.HvcReply.{HvcReply}
+use Rattle.hypervisor.specs.declared.TrapStep.{TrapStep}
+use Rattle.hypervisor.specs.declared.Trapped.{Trapped}
+use Rattle.hypervisor.specs.Answers.{coreNumber, trapNumber, abortAnswer, answered}
+use Rattle.hypervisor.specs.Trap.{ec, classOf, exceptionClass, forwardCall, byClass, waits, handleSyncLower}
+use Rattle.hypervisor.specs.Cores.{noCore, saveCore, mayReply, replied, completeCall, replyTo, replyCore, onCore, saveOn, replyOn, trapOn, saveCases, waitsForFirmware, replyCases, trapCases}
+
+-- 10 comes first, then what the core's own step meets
+on-core-number : (cores : List Core) (i : ℕ) (step : Core → CoreStep)
+    → coreNumber (onCore cores i step .answer) ≡ cond (ltb 7 i) 10 (coreNumber (step (getD cores i noCore) .answer))
+unfolding onCore
+on-core-number cores i step = cond-map (λ (s : CoresStep). coreNumber (s .answer)) (ltb 7 i) _ _
+
+-- "save 10, 11"
+pub save-number : (cores : List Core) (i : ℕ) (x : List ℕ) (elr spsr : ℕ)
+    → coreNumber (saveOn cores i x elr spsr .answer) ≡ firstMet (saveCases cores i)
+unfolding saveOn saveCore
+save-number cores i x elr spsr =
+    on-core-number cores i _
+    ∙ ap (cond (ltb 7 i) 10) (cond-map (λ (s : CoreStep). coreNumber (s .answer)) (waits (getD cores i noCore .wait)) _ _)
+
+-- a call is completed unless its reply's kind is above 4
+complete-number : (conduit : Conduit) (core : Core) (reply : HvcReply)
+    → coreNumber (completeCall conduit core reply .answer) ≡ cond (ltb 4 (reply .kind)) 15 0
+unfolding completeCall resultOfKind
+complete-number conduit core reply = go (reply .kind) (getD (reply .values) 0 0) (reply .error)
+  where
+    go : (kind value : ℕ) (error : ℤ)
+        → coreNumber (replied (resultOfKind kind value error) conduit core (reply .values) .answer) ≡ cond (ltb 4 kind) 15 0
+    go zero value error = refl
+    go (suc zero) value error = refl
+    go (suc (suc zero)) value error = refl
+    go (suc (suc (suc zero))) value error = refl
+    go (suc (suc (suc (suc zero)))) value error = refl
+    go (suc (suc (suc (suc (suc n))))) value error = rw (lt-ltb 4 (suc (suc (suc (suc (suc n))))) (omega arith))
+
+-- 15 where the kind is not the recipient's, or above 4
+either-refuses : (may above : Bool) → _≡_ {A = ℕ} (cond may (cond above 15 0) 15) (cond (above || not may) 15 0)
+either-refuses true true = refl
+either-refuses true false = refl
+either-refuses false true = refl
+either-refuses false false = refl
+
+reply-to-number : (wait : Wait) (core : Core) (reply : HvcReply)
+    → coreNumber (replyTo wait core reply .answer)
+    ≡ cond (not (waits wait)) 14
+    (cond (ltb 4 (reply .kind) || (waitsForFirmware wait && not (eqb (reply .kind) 1 || eqb (reply .kind) 4))) 15 0)
+unfolding mayReply
+reply-to-number Nothing core reply = refl
+reply-to-number (Call conduit Firmware) core reply =
+    let may = eqb (reply .kind) 1 || eqb (reply .kind) 4 in
+    cond-map (λ (s : CoreStep). coreNumber (s .answer)) may _ _
+    ∙ ap (λ (n : ℕ). cond may n 15) (complete-number conduit core reply)
+    ∙ either-refuses may (ltb 4 (reply .kind))
+reply-to-number (Call conduit Platform) core reply = complete-number conduit core reply ∙ either-refuses true (ltb 4 (reply .kind))
+
+-- "reply 10, 14, 15"
+pub reply-number : (cores : List Core) (i : ℕ) (reply : HvcReply)
+    → coreNumber (replyOn cores i reply .answer) ≡ firstMet (replyCases cores i (reply .kind))
+unfolding replyOn replyCore
+reply-number cores i reply =
+    on-core-number cores i _ ∙ ap (cond (ltb 7 i) 10) (reply-to-number (getD cores i noCore .wait) (getD cores i noCore) reply)
+
+-- a data abort's number is that of its answer among a trap's
+abort-answer-number : (a : AbortAnswer) → trapNumber (abortAnswer a) ≡ abortNumber a
+abort-answer-number (abort.Handled kind) = refl
+abort-answer-number abort.Injected = refl
+abort-answer-number abort.NoGuestVector = refl
+
+-- 12 and 13, by the exception class
+module _ (regions : List MemoryAccessRegion) (core : Core) (counter : ℕ) (trap : TrapRegisters) where
+  abbrev refusesAbort : Bool
+  refusesAbort = injectionDue regions core counter trap && eqb (trap .vbar) 0
+
+  class-number : (ec : ℕ)
+      → trapNumber (byClass (classOf ec) regions core counter trap .answer)
+      ≡ cond (not (eqb ec 0x16 || eqb ec 0x17 || eqb ec 0x24)) 12 (cond (eqb ec 0x24 && refusesAbort) 13 0)
+  unfolding byClass forwardCall answered
+  class-number ec = hvc (eqb ec 0x16) refl
+    where
+      abort : (b : Bool) → eqb ec 0x24 ≡ b
+          → trapNumber (byClass (cond b DataAbortLowerEl Unknown) regions core counter trap .answer)
+          ≡ cond (not b) 12 (cond (b && refusesAbort) 13 0)
+      abort true e = abort-answer-number (handleDataAbort regions core counter trap .answer) ∙ abort-number regions core counter trap
+      abort false e = refl
+
+      smc : (b : Bool) → eqb ec 0x17 ≡ b
+          → trapNumber (byClass (cond b SmcTrappedInAArch64 (cond (eqb ec 0x24) DataAbortLowerEl Unknown)) regions core counter trap .answer)
+          ≡ cond (not (b || eqb ec 0x24)) 12 (cond (eqb ec 0x24 && refusesAbort) 13 0)
+      smc true e = rw (eqb-true ec 0x17 e)
+      smc false e = abort (eqb ec 0x24) refl
+
+      hvc : (b : Bool) → eqb ec 0x16 ≡ b
+          → trapNumber (byClass (cond b HvcTrappedInAArch64 (cond (eqb ec 0x17) SmcTrappedInAArch64 (cond (eqb ec 0x24) DataAbortLowerEl Unknown))) regions core counter trap .answer)
+          ≡ cond (not (b || eqb ec 0x17 || eqb ec 0x24)) 12 (cond (eqb ec 0x24 && refusesAbort) 13 0)
+      hvc true e = rw (eqb-true ec 0x16 e)
+      hvc false e = smc (eqb ec 0x17) refl
+
+  step-number : trapNumber (handleSyncLower regions core counter trap .answer)
+      ≡ cond (waits (core .wait)) 11 (trapNumber (byClass (classOf (ec (trap .esr))) regions core counter trap .answer))
+  unfolding handleSyncLower exceptionClass answered
+  step-number = cond-map (λ (s : TrapStep). trapNumber (s .answer)) (waits (core .wait)) _ _
+
+-- "trap 10 to 13"
+pub trap-number : (policy : Policy) (cores : List Core) (counter i : ℕ) (trap : TrapRegisters)
+    → trapNumber (trapOn policy cores counter i trap .answer) ≡ firstMet (trapCases policy cores counter i trap)
+unfolding trapOn
+trap-number policy cores counter i trap =
+    let core = getD cores i noCore in
+    let regions = regionsHeld policy in
+    cond-map (λ (t : Trapped). trapNumber (t .answer)) (ltb 7 i) _ _
+    ∙ ap (cond (ltb 7 i) 10) (step-number regions core counter trap
+    ∙ ap (cond (waits (core .wait)) 11) (class-number regions core counter trap (ec (trap .esr))))
