@@ -1,3 +1,5 @@
 -- Laws that the proofs of this crate and of those above cite.
 pub mod Laws
 pub mod Refusals
+pub mod Steps
+pub mod CounterWord

@@ -1,14 +1,14 @@
 -- Each call on a core answers the number of the first case that it meets. Assumes nothing.
 use Prim.Native.Nat.{ℕ, zero, suc}
-use mathlib.Core.Path.{_≡_, refl, sym, _∙_, ap}
+use mathlib.Core.Path.{_≡_, refl, _∙_, ap}
 use mathlib.Core.Bool.{Bool, true, false, not, cond, _&&_, _||_}
-use mathlib.Core.List.{List, [], _∷_}
+use mathlib.Core.List.{List}
 use native.Mathlib.Omega.{arith}
-use borrow.Author.Tests.{lt-ltb, eqb-true}
+use borrow.Author.Tests.{lt-ltb}
 use lib.Dec.{eqb, ltb}
 use lib.IntN.{ℤ}
 use lib.ListN.{getD}
-use Rattle.lists.specs.Refusals.{Case, case, firstMet}
+use Rattle.lists.specs.Refusals.{case, firstMet}
 use Rattle.memory_access.proofs.Laws.{cond-map}
 use Rattle.stage2.specs.declared.Policy.{Policy}
 use Rattle.stage2.specs.Policy.{regionsHeld}
@@ -26,13 +26,13 @@ use Rattle.exceptions.specs.declared.Wait.the-variants.{Nothing, Call}
 use Rattle.hvc_response.specs.Response.{resultOfKind}
 use Rattle.hypervisor.specs.declared.CoreStep.{CoreStep}
 use Rattle.hypervisor.specs.declared.CoresStep.{CoresStep}
-use Rattle.hypervisor.specs.declared.ExceptionClass.the-variants.{HvcTrappedInAArch64, SmcTrappedInAArch64, DataAbortLowerEl, Unknown}
 use Rattle.hypervisor.specs.declared.HvcReply.{HvcReply}
 use Rattle.hypervisor.specs.declared.TrapStep.{TrapStep}
 use Rattle.hypervisor.specs.declared.Trapped.{Trapped}
 use Rattle.hypervisor.specs.Answers.{coreNumber, trapNumber, abortAnswer, answered}
 use Rattle.hypervisor.specs.Trap.{ec, classOf, exceptionClass, forwardCall, byClass, waits, handleSyncLower}
 use Rattle.hypervisor.specs.Cores.{noCore, saveCore, mayReply, replied, completeCall, replyTo, replyCore, onCore, saveOn, replyOn, trapOn, saveCases, waitsForFirmware, replyCases, trapCases}
+use Rattle.hypervisor.proofs.Laws.{by-class}
 
 -- 10 comes first, then what the core's own step meets
 on-core-number : (cores : List Core) (i : ℕ) (step : Core → CoreStep)
@@ -101,29 +101,20 @@ module _ (regions : List MemoryAccessRegion) (core : Core) (counter : ℕ) (trap
   abbrev refusesAbort : Bool
   refusesAbort = injectionDue regions core counter trap && eqb (trap .vbar) 0
 
-  class-number : (ec : ℕ)
-      → trapNumber (byClass (classOf ec) regions core counter trap .answer)
-      ≡ cond (not (eqb ec 0x16 || eqb ec 0x17 || eqb ec 0x24)) 12 (cond (eqb ec 0x24 && refusesAbort) 13 0)
+  class-number : (class : ℕ)
+      → trapNumber (byClass (classOf class) regions core counter trap .answer)
+      ≡ cond (not (eqb class 0x16 || eqb class 0x17 || eqb class 0x24)) 12 (cond (eqb class 0x24 && refusesAbort) 13 0)
   unfolding byClass forwardCall answered
-  class-number ec = hvc (eqb ec 0x16) refl
-    where
-      abort : (b : Bool) → eqb ec 0x24 ≡ b
-          → trapNumber (byClass (cond b DataAbortLowerEl Unknown) regions core counter trap .answer)
-          ≡ cond (not b) 12 (cond (b && refusesAbort) 13 0)
-      abort true e = abort-answer-number (handleDataAbort regions core counter trap .answer) ∙ abort-number regions core counter trap
-      abort false e = refl
-
-      smc : (b : Bool) → eqb ec 0x17 ≡ b
-          → trapNumber (byClass (cond b SmcTrappedInAArch64 (cond (eqb ec 0x24) DataAbortLowerEl Unknown)) regions core counter trap .answer)
-          ≡ cond (not (b || eqb ec 0x24)) 12 (cond (eqb ec 0x24 && refusesAbort) 13 0)
-      smc true e = rw (eqb-true ec 0x17 e)
-      smc false e = abort (eqb ec 0x24) refl
-
-      hvc : (b : Bool) → eqb ec 0x16 ≡ b
-          → trapNumber (byClass (cond b HvcTrappedInAArch64 (cond (eqb ec 0x17) SmcTrappedInAArch64 (cond (eqb ec 0x24) DataAbortLowerEl Unknown))) regions core counter trap .answer)
-          ≡ cond (not (b || eqb ec 0x17 || eqb ec 0x24)) 12 (cond (eqb ec 0x24 && refusesAbort) 13 0)
-      hvc true e = rw (eqb-true ec 0x16 e)
-      hvc false e = smc (eqb ec 0x17) refl
+  class-number class =
+      by-class
+      (λ c. trapNumber (byClass c regions core counter trap .answer)
+      ≡ cond (not (eqb class 0x16 || eqb class 0x17 || eqb class 0x24)) 12 (cond (eqb class 0x24 && refusesAbort) 13 0))
+      class
+      (λ e. rw e)
+      (λ e. rw e)
+      (λ e. rw e
+      (abort-answer-number (handleDataAbort regions core counter trap .answer) ∙ abort-number regions core counter trap))
+      (λ hvc smc abort. rw (hvc, smc, abort))
 
   step-number : trapNumber (handleSyncLower regions core counter trap .answer)
       ≡ cond (waits (core .wait)) 11 (trapNumber (byClass (classOf (ec (trap .esr))) regions core counter trap .answer))

@@ -1,4 +1,5 @@
--- What the contracts of `hypervisor` cite.
+-- What the contracts of `hypervisor` cite, when a trap loads the counter word, and the host's calls as one.
 pub mod Answers
 pub mod Trap
 pub mod Cores
+pub mod CounterWord

@@ -1,0 +1,165 @@
+-- A trap that loads the counter word answers from the counter and makes it grow by 1; any other neither depends on the counter nor changes
+-- it. Assumes nothing.
+use Prim.Native.Nat.{ℕ, _+_, _-_, _%_, _^_}
+use mathlib.Core.Path.{_≡_, refl, sym, _∙_, ap}
+use mathlib.Core.Bool.{Bool, true, false, cond}
+use mathlib.Core.List.{List, List·Memᴰ·head, List·Memᴰ·tail}
+use native.Mathlib.Omega.{arith}
+use lib.Dec.{ltb}
+use lib.ListN.{getD, set}
+use Rattle.lists.specs.Refusals.{case}
+use Rattle.lists.proofs.Laws.{zero-none, all-numbered}
+use Rattle.memory_access.specs.declared.MemoryAccessKind.the-variants.{Read}
+use Rattle.memory_access.specs.Syndrome.{faultIpa, accessOf}
+use Rattle.memory_access.specs.Transfer.{extendReadResult}
+use Rattle.stage2_range.specs.declared.MemoryAccessRegion.{MemoryAccessRegion}
+use Rattle.stage2_range.proofs.Registry.{find-held}
+use Rattle.stage2.specs.declared.Policy.{Policy}
+use Rattle.stage2.specs.Policy.{regionsHeld}
+use Rattle.stage2.specs.Builds.{WellFormed}
+use Rattle.stage2.proofs.WellFormed.{find-exact}
+use Rattle.exceptions.specs.declared.Core.{Core}
+use Rattle.exceptions.specs.Registers.{writeGpr}
+use Rattle.data_abort.specs.declared.TrapRegisters.{TrapRegisters}
+use Rattle.data_abort.specs.DataAbort.{iss, advanced}
+use Rattle.data_abort.specs.CounterLoad.{CounterLoad}
+use Rattle.data_abort.proofs.CounterLoad.{counter-answered, counter-unused}
+use Rattle.hypervisor.specs.declared.CoreError.the-variants.{CoreWaiting}
+use Rattle.hypervisor.specs.declared.TrapAnswer.the-variants.{AccessHandled}
+use Rattle.hypervisor.specs.declared.TrapStep.{TrapStep}
+use Rattle.hypervisor.specs.declared.Trapped.{Trapped}
+use Rattle.hypervisor.specs.Answers.{trapNumber, noValues, answered, refused}
+use Rattle.hypervisor.specs.Trap.{ec, classOf, exceptionClass, forwardCall, byClass, waits, handleSyncLower}
+use Rattle.hypervisor.specs.Cores.{noCore, trapOn, trapCases}
+use Rattle.hypervisor.specs.CounterWord.{LoadsCounterWord}
+use Rattle.hypervisor.proofs.Laws.{by-class}
+use Rattle.hypervisor.proofs.Refusals.{trap-number}
+
+-- the core after a load of the counter word: Rt has the counter as it was, and ELR grows
+abbrev pub counterRead : Core → ℕ → TrapRegisters → Core
+counterRead core counter trap =
+    let access = accessOf (iss (trap .esr)) (trap .fipa) (trap .far) in
+    advanced (writeGpr core (access .«register_index») (extendReadResult access counter) .core)
+
+-- One core's trap, on any regions: idle, with EC 0x24 and a load of the counter word.
+pub record StepLoads (regions : List MemoryAccessRegion) (core : Core) (trap : TrapRegisters) : Type 0 where
+  pub idle : waits (core .wait) ≡ false
+  pub class : ec (trap .esr) ≡ 0x24
+  pub access : CounterLoad regions trap
+
+module _ (regions : List MemoryAccessRegion) (core : Core) (trap : TrapRegisters) where
+  pub step-loads : (counter : ℕ) → StepLoads regions core trap
+      → handleSyncLower regions core counter trap
+      ≡ record { answer = AccessHandled Read; values = noValues; core = counterRead core counter trap; counter = (counter + 1) % 2 ^ 64 }
+  unfolding handleSyncLower exceptionClass byClass answered
+  step-loads counter l = rw (l .idle, l .class, counter-answered regions core counter trap (l .access))
+
+  abbrev Steady : (ℕ → TrapStep) → Type 0
+  Steady f = (counter counter′ : ℕ) →
+      f counter ≡ record { answer = f counter′ .answer; values = f counter′ .values; core = f counter′ .core; counter = counter }
+
+  class-steady : (class : ℕ) → (class ≡ 0x24 → CounterLoad regions trap → ⊥)
+      → Steady (λ counter. byClass (classOf class) regions core counter trap)
+  unfolding byClass forwardCall answered
+  class-steady class none =
+      by-class (λ c. Steady (λ counter. byClass c regions core counter trap)) class
+      (λ e counter counter′. refl)
+      (λ e counter counter′. refl)
+      (λ e counter counter′. rw (counter-unused regions core trap (none e) counter counter′))
+      (λ hvc smc abort counter counter′. refl)
+
+  pub step-steady : (StepLoads regions core trap → ⊥) → Steady (λ counter. handleSyncLower regions core counter trap)
+  unfolding handleSyncLower exceptionClass answered
+  step-steady none = go (waits (core .wait)) refl
+    where
+      go : (b : Bool) → waits (core .wait) ≡ b
+          → Steady (λ counter. cond b (refused CoreWaiting core counter) (byClass (classOf (ec (trap .esr))) regions core counter trap))
+      go true e = λ counter counter′. refl
+      go false e = class-steady (ec (trap .esr)) (λ class access. none (record { idle = e; class = class; access = access }))
+
+-- The trap of one of the eight cores, in document 01's words.
+module _ (policy : Policy) (cores : List Core) (counter i : ℕ) (trap : TrapRegisters) where
+  abbrev core : Core
+  core = getD cores i noCore
+
+  -- an accepted trap names one of the eight cores, which is idle
+  accepted-idle : trapNumber (trapOn policy cores counter i trap .answer) ≡ 0 → (ltb 7 i ≡ false) × (waits (core .wait) ≡ false)
+  accepted-idle e =
+      let unmet = zero-none (trapCases policy cores counter i trap) (all-numbered _ refl) (sym (trap-number policy cores counter i trap) ∙ e) in
+      (unmet (case 10 (ltb 7 i)) (List·Memᴰ·head refl), unmet (case 11 (waits (core .wait))) (List·Memᴰ·tail (List·Memᴰ·head refl)))
+
+  -- in a well-formed policy the region 16 below the IPA is the one found
+  found-region : WellFormed policy → LoadsCounterWord policy cores counter i trap → CounterLoad (regionsHeld policy) trap
+  found-region w l =
+      let r = l .region in
+      let valid = w .regions-valid r (l .is-held) in
+      let ipa = faultIpa (trap .fipa) (trap .far) in
+      record {
+        isv-set = l .isv-set;
+        wnr-clear = l .wnr-clear;
+        sas-3 = l .sas-3;
+        found = record { region = r; offset = ipa .0 - r .«base_ipa» };
+        is-found = find-exact policy w r (l .is-held) ipa (omega (arith, l .ipa-16-above)) (omega (arith, l .ipa-16-above, valid .1, valid .0 .whole-pages, valid .0 .not-empty));
+        offset-16 = omega (arith, l .ipa-16-above);
+        reads-page = l .reads-page;
+      }
+
+  -- a trap that loads the counter word puts the counter as it was into Rt, and the counter grows by 1 modulo 2^64
+  pub word-loaded : WellFormed policy → LoadsCounterWord policy cores counter i trap
+      → trapOn policy cores counter i trap
+      ≡ record {
+        answer = AccessHandled Read;
+        values = noValues;
+        policy = policy;
+        cores = set cores i (counterRead core counter trap);
+        counter = (counter + 1) % 2 ^ 64;
+      }
+  unfolding trapOn
+  word-loaded w l =
+      let ok = accepted-idle (l .accepted) in
+      rw (ok .0, step-loads (regionsHeld policy) core trap counter (record { idle = ok .1; class = l .class; access = found-region w l }))
+
+  -- a step that loads the counter word, on any regions, does so in document 01's words
+  in-words : ltb 7 i ≡ false → StepLoads (regionsHeld policy) core trap → LoadsCounterWord policy cores counter i trap
+  unfolding trapOn
+  in-words h l =
+      let a = l .access in
+      let ipa = faultIpa (trap .fipa) (trap .far) in
+      let f = find-held (regionsHeld policy) ipa (a .found) (a .is-found) in
+      record {
+        accepted = rw (h, step-loads (regionsHeld policy) core trap counter l);
+        class = l .class;
+        isv-set = a .isv-set;
+        wnr-clear = a .wnr-clear;
+        sas-3 = a .sas-3;
+        region = a .found .region;
+        is-held = f .0;
+        ipa-16-above = omega (arith, f .1, f .3, a .offset-16);
+        reads-page = a .reads-page;
+      }
+
+  -- any other trap answers the same at every counter, and leaves it
+  abbrev SameAt : ℕ → Type 0
+  SameAt counter′ =
+      let t = trapOn policy cores counter i trap in
+      trapOn policy cores counter′ i trap
+      ≡ record { answer = t .answer; values = t .values; policy = policy; cores = t .cores; counter = counter′ }
+
+  refused-same : (counter′ : ℕ) → ltb 7 i ≡ true → SameAt counter′
+  unfolding trapOn
+  refused-same counter′ h = rw h
+
+  step-same : (counter′ : ℕ) → ltb 7 i ≡ false → (StepLoads (regionsHeld policy) core trap → ⊥) → SameAt counter′
+  unfolding trapOn
+  step-same counter′ h none = rw (h, step-steady (regionsHeld policy) core trap none counter′ counter)
+
+  pub word-not-loaded : (LoadsCounterWord policy cores counter i trap → ⊥) → (counter′ : ℕ) → SameAt counter′
+  word-not-loaded none counter′ = go (ltb 7 i) refl
+    where
+      go : (b : Bool) → ltb 7 i ≡ b → SameAt counter′
+      go true h = refused-same counter′ h
+      go false h = step-same counter′ h (λ l. none (in-words h l))
+
+  -- so the counter grows exactly where its word is loaded
+  pub counter-left : (LoadsCounterWord policy cores counter i trap → ⊥) → trapOn policy cores counter i trap .counter ≡ counter
+  counter-left none = ap (λ (t : Trapped). t .counter) (word-not-loaded none counter)

@@ -1,0 +1,87 @@
+-- A step on one of the eight cores is that core's step, and no other core changes. Assumes nothing.
+use Prim.Native.Nat.{ℕ, _≤_}
+use mathlib.Core.Path.{_≡_, _∙_}
+use mathlib.Core.Bool.{cond}
+use mathlib.Core.List.{List}
+use native.Mathlib.Omega.{arith}
+use borrow.Author.Tests.{le-ltb}
+use lib.Dec.{ltb}
+use lib.ListN.{length, getD, set, length-set}
+use lib.Seq.{getD-set-same, getD-set-other}
+use Rattle.lists.proofs.Laws.{cond-same}
+use Rattle.memory_access.proofs.Laws.{cond-map}
+use Rattle.stage2.specs.declared.Policy.{Policy}
+use Rattle.stage2.specs.Policy.{regionsHeld}
+use Rattle.data_abort.specs.declared.TrapRegisters.{TrapRegisters}
+use Rattle.exceptions.specs.declared.Core.{Core}
+use Rattle.hypervisor.specs.declared.CoreStep.{CoreStep}
+use Rattle.hypervisor.specs.declared.CoresStep.{CoresStep}
+use Rattle.hypervisor.specs.declared.TrapStep.{TrapStep}
+use Rattle.hypervisor.specs.declared.Trapped.{Trapped}
+use Rattle.hypervisor.specs.Trap.{handleSyncLower}
+use Rattle.hypervisor.specs.Cores.{noCore, onCore, trapOn}
+
+-- the cores with one of the eight replaced: a number above 7 names none
+abbrev replaced : List Core → ℕ → Core → List Core
+replaced cores i core = cond (ltb 7 i) cores (set cores i core)
+
+module _ (cores : List Core) (i : ℕ) (core : Core) where
+  replaced-own : i ≤ 7 → length cores ≡ 8 → getD (replaced cores i core) i noCore ≡ core
+  replaced-own h full = rw (le-ltb 7 i h) (getD-set-same cores i core noCore (omega arith))
+
+  replaced-other : (j : ℕ) → (j ≡ i → ⊥) → getD (replaced cores i core) j noCore ≡ getD cores j noCore
+  replaced-other j h =
+      cond-map (λ (l : List Core). getD l j noCore) (ltb 7 i) cores (set cores i core)
+      ∙ rw (getD-set-other cores i j core noCore h) (cond-same (ltb 7 i) (getD cores j noCore))
+
+  replaced-places : length (replaced cores i core) ≡ length cores
+  replaced-places =
+      cond-map (λ (l : List Core). length l) (ltb 7 i) cores (set cores i core)
+      ∙ rw (length-set cores i core) (cond-same (ltb 7 i) (length cores))
+
+-- A trap: what it gives of its own core is the step of that core, by the regions that are held and the counter, and depends on nothing
+-- else; no other core changes.
+module _ (policy : Policy) (cores : List Core) (counter i : ℕ) (trap : TrapRegisters) where
+  abbrev after : Trapped
+  after = trapOn policy cores counter i trap
+
+  trap-cores : after .cores ≡ replaced cores i (handleSyncLower (regionsHeld policy) (getD cores i noCore) counter trap .core)
+  unfolding trapOn
+  trap-cores = cond-map (λ (t : Trapped). t .cores) (ltb 7 i) _ _
+
+  pub trap-step : i ≤ 7 → length cores ≡ 8
+      → _≡_ {A = TrapStep}
+      (record { answer = after .answer; values = after .values; core = getD (after .cores) i noCore; counter = after .counter })
+      (handleSyncLower (regionsHeld policy) (getD cores i noCore) counter trap)
+  unfolding trapOn
+  trap-step h full = rw (le-ltb 7 i h, getD-set-same cores i _ noCore (omega arith))
+
+  pub trap-others : (j : ℕ) → (j ≡ i → ⊥) → getD (after .cores) j noCore ≡ getD cores j noCore
+  trap-others j h = rw trap-cores (replaced-other cores i _ j h)
+
+  pub trap-places : length (after .cores) ≡ length cores
+  trap-places = rw trap-cores (replaced-places cores i _)
+
+  -- the policy is handed back as it was
+  pub trap-policy : after .policy ≡ policy
+  unfolding trapOn
+  trap-policy = cond-map (λ (t : Trapped). t .policy) (ltb 7 i) _ _ ∙ cond-same (ltb 7 i) policy
+
+-- A save or a reply: the same.
+module _ (cores : List Core) (i : ℕ) (step : Core → CoreStep) where
+  core-cores : onCore cores i step .cores ≡ replaced cores i (step (getD cores i noCore) .core)
+  unfolding onCore
+  core-cores = cond-map (λ (s : CoresStep). s .cores) (ltb 7 i) _ _
+
+  pub core-step : i ≤ 7 → length cores ≡ 8
+      → _≡_ {A = CoreStep}
+      (record { answer = onCore cores i step .answer; core = getD (onCore cores i step .cores) i noCore })
+      (step (getD cores i noCore))
+  unfolding onCore
+  core-step h full = rw (le-ltb 7 i h, getD-set-same cores i _ noCore (omega arith))
+
+  pub core-others : (j : ℕ) → (j ≡ i → ⊥) → getD (onCore cores i step .cores) j noCore ≡ getD cores j noCore
+  core-others j h = rw core-cores (replaced-other cores i _ j h)
+
+  pub core-places : length (onCore cores i step .cores) ≡ length cores
+  core-places = rw core-cores (replaced-places cores i _)
