@@ -1,5 +1,5 @@
 -- Laws on a data abort. Assumes nothing.
-use mathlib.Core.Bool.{_&&_, cond}
+use mathlib.Core.Bool.{Bool, true, false, _&&_, cond}
 use mathlib.Core.List.{List}
 use Prim.Native.Nat.{ℕ, _+_, _*_, _/_, _%_, _^_, _-_, _<_}
 use mathlib.Core.Path.{_≡_, refl, ap, ap₂, sym, _∙_}
@@ -11,11 +11,12 @@ use lib.Pow.{split, pow-pos}
 use Rattle.memory_access.proofs.Laws.{cond-map}
 use Rattle.stage2_range.specs.declared.MemoryAccessRegion.{MemoryAccessRegion}
 use Rattle.exceptions.specs.declared.Core.{Core}
+use Rattle.data_abort.specs.declared.AbortAnswer.the-variants.{Injected, NoGuestVector}
 use Rattle.data_abort.specs.declared.AbortStep.{AbortStep}
 use Rattle.data_abort.specs.declared.AccessOutcome.{AccessOutcome}
 use Rattle.data_abort.specs.declared.AccessOutcome.the-variants.{Handled, Unhandled}
 use Rattle.data_abort.specs.declared.TrapRegisters.{TrapRegisters}
-use Rattle.data_abort.specs.DataAbort.{tryMemoryAccess, injectDataAbort, abortDone, handleDataAbort, withEc, isUnhandled, injectionDue, abortNumber}
+use Rattle.data_abort.specs.DataAbort.{tryMemoryAccess, injected, injectDataAbort, abortDone, handleDataAbort, withEc, isUnhandled, injectionDue, abortNumber}
 
 -- a mask clears bits 31:26
 ec-cleared : (e : ℕ) → e < 2 ^ 64 → bitAnd e (2 ^ 64 - 1 - 0x3F * 2 ^ 26) ≡ e / 2 ^ 32 * 2 ^ 32 + e % 2 ^ 26
@@ -52,3 +53,23 @@ abort-number regions core counter trap = go (tryMemoryAccess regions core counte
         ≡ cond (isUnhandled o && eqb (trap .vbar) 0) 13 0
     go (Handled kind) = refl
     go Unhandled = cond-map (λ (s : AbortStep). abortNumber (s .answer)) (eqb (trap .vbar) 0) _ _
+
+-- A refusal changes nothing.
+module _ (regions : List MemoryAccessRegion) (core : Core) (counter : ℕ) (trap : TrapRegisters) where
+  -- the step, by what comes of the access and by whether VBAR is 0
+  abbrev stepBy : AccessOutcome → Bool → AbortStep
+  stepBy o no-vector =
+      abortDone o (tryMemoryAccess regions core counter trap)
+        (cond no-vector (record { answer = NoGuestVector; core = core; counter = counter })
+        (record { answer = Injected; core = injected core trap; counter = counter }))
+
+  refused-by : (o : AccessOutcome) (no-vector : Bool) → (abortNumber (stepBy o no-vector .answer) ≡ 0 → ⊥)
+      → (stepBy o no-vector .core ≡ core) × (stepBy o no-vector .counter ≡ counter)
+  refused-by (Handled kind) no-vector h = absurd (h refl)
+  refused-by Unhandled true h = (refl, refl)
+  refused-by Unhandled false h = absurd (h refl)
+
+  pub abort-refused : (abortNumber (handleDataAbort regions core counter trap .answer) ≡ 0 → ⊥)
+      → (handleDataAbort regions core counter trap .core ≡ core) × (handleDataAbort regions core counter trap .counter ≡ counter)
+  unfolding handleDataAbort injectDataAbort
+  abort-refused h = refused-by (tryMemoryAccess regions core counter trap .outcome) (eqb (trap .vbar) 0) h

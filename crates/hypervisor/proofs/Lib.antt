@@ -3,3 +3,4 @@ pub mod Laws
 pub mod Refusals
 pub mod Steps
 pub mod CounterWord
+pub mod Calls

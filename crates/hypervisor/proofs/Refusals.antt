@@ -91,7 +91,7 @@ reply-number cores i reply =
     on-core-number cores i _ ∙ ap (cond (ltb 7 i) 10) (reply-to-number (getD cores i noCore .wait) (getD cores i noCore) reply)
 
 -- a data abort's number is that of its answer among a trap's
-abort-answer-number : (a : AbortAnswer) → trapNumber (abortAnswer a) ≡ abortNumber a
+pub abort-answer-number : (a : AbortAnswer) → trapNumber (abortAnswer a) ≡ abortNumber a
 abort-answer-number (abort.Handled kind) = refl
 abort-answer-number abort.Injected = refl
 abort-answer-number abort.NoGuestVector = refl

@@ -3,3 +3,4 @@ pub mod Answers
 pub mod Trap
 pub mod Cores
 pub mod CounterWord
+pub mod Calls

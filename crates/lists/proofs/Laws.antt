@@ -379,7 +379,11 @@ pub both-true : (a b : Bool) → (a && b) ≡ true → (a ≡ true) × (b ≡ tr
 both-true true b e = (refl, e)
 both-true false b e = absurd (true≢false (sym e))
 
+-- what holds of both holds of a choice between them
+pub cond-all : {A : Type 0} (P : A → Type 0) (b : Bool) (x y : A) → P x → P y → P (cond b x y)
+cond-all P true x y h k = h
+cond-all P false x y h k = k
+
 -- a choice between equals
 pub cond-same : {A : Type 0} (b : Bool) (x : A) → cond b x x ≡ x
-cond-same true x = refl
-cond-same false x = refl
+cond-same b x = cond-all (λ y. y ≡ x) b x x refl refl

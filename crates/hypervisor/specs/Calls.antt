@@ -1,0 +1,149 @@
+-- The host's calls as one, over the whole state. Assumes nothing.
+use Prim.Native.Nat.{ℕ}
+use mathlib.Core.Bool.{Bool, true, false, _&&_, cond}
+use mathlib.Core.List.{List, [], _∷_}
+use lib.Dec.{eqb}
+use lib.ListN.{getD, set}
+use Rattle.stage2_range.specs.declared.Stage2Result.{Stage2Result}
+use Rattle.stage2_range.specs.Ranges.{resultNumber}
+use Rattle.stage2.specs.declared.Policy.{Policy}
+use Rattle.stage2.specs.Policy.{freshPolicy}
+use Rattle.stage2.specs.Builds as builds
+use Rattle.simple_map.specs.declared.SimpleMap.{SimpleMap}
+use Rattle.simple_map.specs.declared.SuspendCoreData.{SuspendCoreData}
+use Rattle.simple_map.specs.declared.Insertion.{Insertion}
+use Rattle.simple_map.specs.declared.Lookup.{Lookup}
+use Rattle.simple_map.specs.Map.{emptyMap, getItem, removeItem, insertItem, insertNumber}
+use Rattle.exceptions.specs.declared.Core.{Core}
+use Rattle.exceptions.specs.declared.GprWrite.{GprWrite}
+use Rattle.exceptions.specs.declared.Wait.{Wait}
+use Rattle.exceptions.specs.Registers.{writeGpr, writeNumber}
+use Rattle.data_abort.specs.declared.TrapRegisters.{TrapRegisters}
+use Rattle.hypervisor.specs.declared.CoreAnswer.{CoreAnswer}
+use Rattle.hypervisor.specs.declared.CoreAnswer.the-variants as core-answer
+use Rattle.hypervisor.specs.declared.HvcReply.{HvcReply}
+use Rattle.hypervisor.specs.declared.TrapAnswer.{TrapAnswer}
+use Rattle.hypervisor.specs.declared.TrapAnswer.the-variants as trap-answer
+use Rattle.hypervisor.specs.Answers.{coreNumber, trapNumber}
+use Rattle.hypervisor.specs.Trap.{waits}
+use Rattle.hypervisor.specs.Cores.{noCore, freshCores, saveOn, replyOn, trapOn}
+
+-- the state that calls are given and hand back
+pub record State : Type 0 where
+  pub policy : Policy
+  pub cores : List Core
+  pub counter : ℕ
+  pub map : SimpleMap
+
+-- "Fresh means no range, no region, no parked entry, the counter 0 and fresh cores"
+unfoldable pub freshState : State
+freshState = record { policy = freshPolicy; cores = freshCores; counter = 0; map = emptyMap }
+
+-- the calls: a builder call, or a core step
+pub data HostCall : Type 0 where
+  build : (call : builds.BuilderCall) → HostCall
+  save : (core : ℕ) (x : List ℕ) (elr spsr : ℕ) → HostCall
+  trap : (core : ℕ) (registers : TrapRegisters) → HostCall
+  reply : (core : ℕ) (result : HvcReply) → HostCall
+  write-gpr : (core index value : ℕ) → HostCall
+  insert : (key : ℕ) (value : SuspendCoreData) → HostCall
+  get : (key : ℕ) → HostCall
+  remove : (key : ℕ) → HostCall
+
+-- what a call answers, with every result field beside the state
+pub data Answer : Type 0 where
+  built : Stage2Result → Answer
+  stepped : CoreAnswer → Answer
+  trapped : TrapAnswer → List ℕ → Answer
+  written : GprWrite → Answer
+  inserted : Insertion → Answer
+  looked-up : Lookup → Answer
+
+-- its number in document 01's table: 0 where it is no refusal
+abbrev pub answerNumber : Answer → ℕ
+answerNumber (built answer) = resultNumber answer
+answerNumber (stepped answer) = coreNumber answer
+answerNumber (trapped answer values) = trapNumber answer
+answerNumber (written answer) = writeNumber answer
+answerNumber (inserted answer) = insertNumber answer
+answerNumber (looked-up answer) = 0
+
+pub record Called : Type 0 where
+  pub answer : Answer
+  pub state : State
+
+-- a part of the state replaced
+abbrev pub withPolicy : State → Policy → State
+withPolicy s policy = record { policy = policy; cores = s .cores; counter = s .counter; map = s .map }
+
+abbrev pub withCores : State → List Core → State
+withCores s cores = record { policy = s .policy; cores = cores; counter = s .counter; map = s .map }
+
+abbrev pub withMap : State → SimpleMap → State
+withMap s map = record { policy = s .policy; cores = s .cores; counter = s .counter; map = map }
+
+-- a call, by the definitions that the contracts cite. `write_gpr` is "on a record of the eight, which is put back".
+abbrev pub call : State → HostCall → Called
+call s (build c) =
+    let b = builds.build (s .policy) c in
+    record { answer = built (b .answer); state = withPolicy s (b .policy) }
+call s (save core x elr spsr) =
+    let r = saveOn (s .cores) core x elr spsr in
+    record { answer = stepped (r .answer); state = withCores s (r .cores) }
+call s (trap core registers) =
+    let t = trapOn (s .policy) (s .cores) (s .counter) core registers in
+    record {
+      answer = trapped (t .answer) (t .values);
+      state = record { policy = t .policy; cores = t .cores; counter = t .counter; map = s .map };
+    }
+call s (reply core result) =
+    let r = replyOn (s .cores) core result in
+    record { answer = stepped (r .answer); state = withCores s (r .cores) }
+call s (write-gpr core index value) =
+    let w = writeGpr (getD (s .cores) core noCore) index value in
+    record { answer = written (w .answer); state = withCores s (set (s .cores) core (w .core)) }
+call s (insert key value) =
+    let i = insertItem (s .map) key value in
+    record { answer = inserted (i .answer); state = withMap s (i .map) }
+call s (get key) = record { answer = looked-up (getItem (s .map) key); state = s }
+call s (remove key) =
+    let r = removeItem (s .map) key in
+    record { answer = looked-up (r .removed); state = withMap s (r .map) }
+
+-- "Each call gets the state that the last one handed back"
+abbrev pub callAll : State → List HostCall → State
+callAll s [] = s
+callAll s (c ∷ cs) = callAll (call s c .state) cs
+
+-- what a core waits for
+abbrev pub waitOf : State → ℕ → Wait
+waitOf s i = getD (s .cores) i noCore .wait
+
+-- a trap handed the guest's call out
+abbrev pub isForwarded : TrapAnswer → Bool
+isForwarded (trap-answer.AccessHandled kind) = false
+isForwarded trap-answer.AbortInjected = false
+isForwarded (trap-answer.Forwarded recipient) = true
+isForwarded (trap-answer.Refused error) = false
+
+-- a save or a reply was accepted
+abbrev pub isAccepted : CoreAnswer → Bool
+isAccepted core-answer.Accepted = true
+isAccepted (core-answer.Refused error) = false
+
+-- whether core `i` is between a forwarded call (document 01: a hand-out) and its reply, after one more call
+abbrev pub outstandingAfter : State → ℕ → Bool → HostCall → Bool
+outstandingAfter s i before (trap core registers) =
+    cond (eqb core i && isForwarded (trapOn (s .policy) (s .cores) (s .counter) core registers .answer)) true before
+outstandingAfter s i before (reply core result) = cond (eqb core i && isAccepted (replyOn (s .cores) core result .answer)) false before
+outstandingAfter s i before (build c) = before
+outstandingAfter s i before (save core x elr spsr) = before
+outstandingAfter s i before (write-gpr core index value) = before
+outstandingAfter s i before (insert key value) = before
+outstandingAfter s i before (get key) = before
+outstandingAfter s i before (remove key) = before
+
+-- the same after a list of calls
+abbrev pub outstanding : State → ℕ → Bool → List HostCall → Bool
+outstanding s i before [] = before
+outstanding s i before (c ∷ cs) = outstanding (call s c .state) i (outstandingAfter s i before c) cs
