@@ -8,15 +8,36 @@ use native.Mathlib.Omega.{arith}
 use lib.Bits.{bitAnd, bitOr, and-mask, and-block, or-block, or-zero-r, or-shifted-r}
 use lib.Dec.{lit<, eqb}
 use lib.Pow.{split, pow-pos}
-use Rattle.memory_access.proofs.Laws.{cond-map}
+use Rattle.lists.proofs.Laws.{cond-map, cond-all}
+use Rattle.memory_access.specs.declared.MemoryAccess.{MemoryAccess}
+use Rattle.memory_access.specs.declared.MemoryAccessKind.{MemoryAccessKind}
+use Rattle.memory_access.specs.declared.MemoryAccessKind.the-variants.{Read, Write}
+use Rattle.memory_access.specs.declared.Decoded.{Decoded}
+use Rattle.memory_access.specs.declared.Decoded.the-variants.{Access, NoSyndrome}
+use Rattle.memory_access.specs.Syndrome.{decodeAccess}
+use Rattle.memory_access.specs.Transfer.{extendReadResult}
 use Rattle.stage2_range.specs.declared.MemoryAccessRegion.{MemoryAccessRegion}
+use Rattle.stage2_range.specs.declared.MemoryAccessHandlerMatch.{MemoryAccessHandlerMatch}
+use Rattle.stage2_range.specs.declared.MemoryHandler.{MemoryHandler}
+use Rattle.stage2_range.specs.declared.MemoryHandler.the-variants.{Absent, FilteredMmio}
+use Rattle.stage2_range.specs.declared.MemoryReadResult.{MemoryReadResult}
+use Rattle.stage2_range.specs.declared.MemoryReadResult.the-variants as read
+use Rattle.stage2_range.specs.declared.MemoryWriteResult.{MemoryWriteResult}
+use Rattle.stage2_range.specs.declared.MemoryWriteResult.the-variants as write
+use Rattle.stage2_range.specs.declared.RegionFound.{RegionFound}
+use Rattle.stage2_range.specs.declared.RegionFound.the-variants.{Nothing, Match}
+use Rattle.stage2_range.specs.Registry.{findRegion}
 use Rattle.exceptions.specs.declared.Core.{Core}
+use Rattle.exceptions.specs.declared.Wait.{Wait}
+use Rattle.exceptions.proofs.Laws.{write-wait}
+use Rattle.qemu.specs.FilteredMmio.{readFilteredMmio, writeFilteredMmio}
 use Rattle.data_abort.specs.declared.AbortAnswer.the-variants.{Injected, NoGuestVector}
 use Rattle.data_abort.specs.declared.AbortStep.{AbortStep}
 use Rattle.data_abort.specs.declared.AccessOutcome.{AccessOutcome}
 use Rattle.data_abort.specs.declared.AccessOutcome.the-variants.{Handled, Unhandled}
+use Rattle.data_abort.specs.declared.Accessed.{Accessed}
 use Rattle.data_abort.specs.declared.TrapRegisters.{TrapRegisters}
-use Rattle.data_abort.specs.DataAbort.{tryMemoryAccess, injected, injectDataAbort, abortDone, handleDataAbort, withEc, isUnhandled, injectionDue, abortNumber}
+use Rattle.data_abort.specs.DataAbort.{iss, advanced, readDone, writeDone, readThrough, writeThrough, accessIn, accessFound, accessDecoded, tryMemoryAccess, injected, injectDataAbort, abortDone, handleDataAbort, withEc, isUnhandled, injectionDue, abortNumber}
 
 -- a mask clears bits 31:26
 ec-cleared : (e : ℕ) → e < 2 ^ 64 → bitAnd e (2 ^ 64 - 1 - 0x3F * 2 ^ 26) ≡ e / 2 ^ 32 * 2 ^ 32 + e % 2 ^ 26
@@ -60,8 +81,8 @@ module _ (regions : List MemoryAccessRegion) (core : Core) (counter : ℕ) (trap
   abbrev stepBy : AccessOutcome → Bool → AbortStep
   stepBy o no-vector =
       abortDone o (tryMemoryAccess regions core counter trap)
-        (cond no-vector (record { answer = NoGuestVector; core = core; counter = counter })
-        (record { answer = Injected; core = injected core trap; counter = counter }))
+      (cond no-vector (record { answer = NoGuestVector; core = core; counter = counter })
+      (record { answer = Injected; core = injected core trap; counter = counter }))
 
   refused-by : (o : AccessOutcome) (no-vector : Bool) → (abortNumber (stepBy o no-vector .answer) ≡ 0 → ⊥)
       → (stepBy o no-vector .core ≡ core) × (stepBy o no-vector .counter ≡ counter)
@@ -73,3 +94,59 @@ module _ (regions : List MemoryAccessRegion) (core : Core) (counter : ℕ) (trap
       → (handleDataAbort regions core counter trap .core ≡ core) × (handleDataAbort regions core counter trap .counter ≡ counter)
   unfolding handleDataAbort injectDataAbort
   abort-refused h = refused-by (tryMemoryAccess regions core counter trap .outcome) (eqb (trap .vbar) 0) h
+
+-- A data abort leaves what the core waits for.
+read-wait : (result : MemoryReadResult) (after : ℕ) (access : MemoryAccess) (core : Core) (counter : ℕ)
+    → readDone result after access core counter .core .wait ≡ core .wait
+unfolding advanced
+read-wait (read.Value value) after access core counter = write-wait core (access .«register_index») (extendReadResult access value)
+read-wait read.Fault after access core counter = refl
+
+written-wait : (result : MemoryWriteResult) (core : Core) (counter : ℕ) → writeDone result core counter .core .wait ≡ core .wait
+unfolding advanced
+written-wait write.Handled core counter = refl
+written-wait write.Fault core counter = refl
+
+read-through-wait : (handler : MemoryHandler) (access : MemoryAccess) (offset : ℕ) (core : Core) (counter : ℕ)
+    → readThrough handler access offset core counter .core .wait ≡ core .wait
+unfolding readThrough
+read-through-wait Absent access offset core counter = refl
+read-through-wait FilteredMmio access offset core counter =
+    let got = readFilteredMmio (record { ipa = access .ipa; offset = offset; width = access .width }) counter in
+    read-wait (got .result) (got .counter) access core counter
+
+write-through-wait : (handler : MemoryHandler) (access : MemoryAccess) (offset : ℕ) (core : Core) (counter : ℕ)
+    → writeThrough handler access offset core counter .core .wait ≡ core .wait
+unfolding writeThrough
+write-through-wait Absent access offset core counter = refl
+write-through-wait FilteredMmio access offset core counter = written-wait (writeFilteredMmio _) core counter
+
+in-wait : (kind : MemoryAccessKind) (m : MemoryAccessHandlerMatch) (access : MemoryAccess) (core : Core) (counter : ℕ)
+    → accessIn kind m access core counter .core .wait ≡ core .wait
+unfolding accessIn
+in-wait Read m access core counter = read-through-wait (m .region .handler .read) access (m .offset) core counter
+in-wait Write m access core counter = write-through-wait (m .region .handler .write) access (m .offset) core counter
+
+found-wait : (found : RegionFound) (access : MemoryAccess) (core : Core) (counter : ℕ)
+    → accessFound found access core counter .core .wait ≡ core .wait
+found-wait Nothing access core counter = refl
+found-wait (Match m) access core counter = in-wait (access .kind) m access core counter
+
+decoded-wait : (decoded : Decoded) (regions : List MemoryAccessRegion) (core : Core) (counter : ℕ)
+    → accessDecoded decoded regions core counter .core .wait ≡ core .wait
+decoded-wait NoSyndrome regions core counter = refl
+decoded-wait (Access access) regions core counter = found-wait (findRegion regions (access .ipa)) access core counter
+
+done-wait : (o : AccessOutcome) (wait : Wait) (accessed : Accessed) (injection : AbortStep) → accessed .core .wait ≡ wait
+    → injection .core .wait ≡ wait → abortDone o accessed injection .core .wait ≡ wait
+done-wait (Handled kind) wait accessed injection h k = h
+done-wait Unhandled wait accessed injection h k = k
+
+pub abort-wait : (regions : List MemoryAccessRegion) (core : Core) (counter : ℕ) (trap : TrapRegisters)
+    → handleDataAbort regions core counter trap .core .wait ≡ core .wait
+unfolding handleDataAbort tryMemoryAccess injectDataAbort injected
+abort-wait regions core counter trap =
+    done-wait (tryMemoryAccess regions core counter trap .outcome) (core .wait) (tryMemoryAccess regions core counter trap)
+    (injectDataAbort core counter trap)
+    (decoded-wait (decodeAccess (iss (trap .esr)) (trap .fipa) (trap .far)) regions core counter)
+    (cond-all (λ (s : AbortStep). s .core .wait ≡ core .wait) (eqb (trap .vbar) 0) _ _ refl refl)

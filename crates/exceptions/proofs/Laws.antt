@@ -7,8 +7,10 @@ use borrow.Author.Tests.{lt-ltb, le-ltb, eq-eqb, ne-eqb, ltb-false}
 use lib.Dec.{eqb, ltb}
 use lib.ListN.{length}
 use lib.Seq.{getD-set-same, getD-set-other}
+use Rattle.lists.proofs.Laws.{cond-all}
 use Rattle.exceptions.specs.declared.Core.{Core}
 use Rattle.exceptions.specs.declared.GprRead.the-variants.{Value}
+use Rattle.exceptions.specs.declared.GprWritten.{GprWritten}
 use Rattle.exceptions.specs.Registers.{withRegisters, readGpr, readNumber, readValue, writeGpr, writeNumber}
 
 -- Both calls are refused, with 17, exactly where the index is above 31; a refusal has no value and leaves the core as it was.
@@ -40,3 +42,10 @@ module _ (core : Core) (index value : ℕ) (within : index < 31) where
   pub read-other : (other : ℕ) → (other ≡ index → ⊥) → readGpr (writeGpr core index value .core) other ≡ readGpr core other
   unfolding readGpr writeGpr withRegisters
   read-other other h = rw (lt-ltb index 31 within, getD-set-other (core .x) index other value 0 h)
+
+-- a write leaves what the core waits for
+pub write-wait : (core : Core) (index value : ℕ) → writeGpr core index value .core .wait ≡ core .wait
+unfolding writeGpr withRegisters
+write-wait core index value =
+    let Same : GprWritten → Type 0 = λ w. w .core .wait ≡ core .wait in
+    cond-all Same (ltb index 31) _ _ refl (cond-all Same (eqb index 31) _ _ refl refl)

@@ -1,15 +1,11 @@
 -- Laws over all of the host's calls. Assumes nothing.
-use Prim.Native.Nat.{ℕ, _≤_}
-use mathlib.Core.Path.{_≡_, refl, sym, _∙_, ap}
-use mathlib.Core.Bool.{Bool, true, false, _&&_, cond}
-use mathlib.Core.List.{List, [], _∷_}
-use native.Mathlib.Omega.{arith}
-use borrow.Author.Tests.{eqb-true, eqb-false}
+use Prim.Native.Nat.{ℕ}
+use mathlib.Core.Path.{_≡_, refl, _∙_, ap}
+use mathlib.Core.List.{List}
 use lib.Dec.{eqb, ltb}
-use lib.ListN.{length, getD, set, length-set}
-use lib.Seq.{set-getD, getD-set-same, getD-set-other}
+use lib.ListN.{getD}
+use lib.Seq.{set-getD}
 use Rattle.lists.proofs.Laws.{cond-all}
-use Rattle.stage2.specs.declared.Policy.{Policy}
 use Rattle.stage2.specs.Policy.{regionsHeld}
 use Rattle.stage2.specs.Builds as builds
 use Rattle.stage2.proofs.Laws.{build-refused}
@@ -18,28 +14,26 @@ use Rattle.simple_map.specs.declared.Inserted.{Inserted}
 use Rattle.simple_map.specs.declared.SimpleMap.{SimpleMap}
 use Rattle.simple_map.specs.declared.SuspendCoreData.{SuspendCoreData}
 use Rattle.simple_map.specs.Map.{hasRoom, insertItem, insertNumber}
-use Rattle.simple_map.proofs.Laws.{no-room-refused, room-accepted}
 use Rattle.exceptions.specs.declared.Core.{Core}
 use Rattle.exceptions.specs.declared.GprWritten.{GprWritten}
 use Rattle.exceptions.specs.declared.Conduit.{Conduit}
-use Rattle.exceptions.specs.declared.Conduit.the-variants.{Hvc, Smc}
 use Rattle.exceptions.specs.declared.Wait.{Wait}
 use Rattle.exceptions.specs.declared.Wait.the-variants.{Nothing, Call}
-use Rattle.exceptions.specs.Registers.{writeGpr, writeNumber, withRegisters}
+use Rattle.exceptions.specs.Registers.{writeGpr, writeNumber}
 use Rattle.hvc_response.specs.declared.HvcResultKind.{HvcResultKind}
 use Rattle.hvc_response.specs.declared.HvcResultKind.the-variants.{Result, UnknownKind}
 use Rattle.hvc_response.specs.Response.{resultOfKind}
 use Rattle.data_abort.specs.declared.TrapRegisters.{TrapRegisters}
 use Rattle.data_abort.specs.DataAbort.{handleDataAbort}
 use Rattle.data_abort.proofs.Laws.{abort-refused}
-use Rattle.hypervisor.specs.declared.CoreError.the-variants.{CoreWaiting, NothingWaiting, UnknownReplyKind}
+use Rattle.hypervisor.specs.declared.CoreError.the-variants.{UnknownReplyKind}
 use Rattle.hypervisor.specs.declared.CoreStep.{CoreStep}
 use Rattle.hypervisor.specs.declared.CoresStep.{CoresStep}
 use Rattle.hypervisor.specs.declared.HvcReply.{HvcReply}
 use Rattle.hypervisor.specs.declared.TrapStep.{TrapStep}
 use Rattle.hypervisor.specs.declared.Trapped.{Trapped}
-use Rattle.hypervisor.specs.Answers.{coreNumber, trapNumber, abortAnswer, answered, refused, refusedCore}
-use Rattle.hypervisor.specs.Trap.{ec, classOf, exceptionClass, forwardCall, byClass, waits, handleSyncLower}
+use Rattle.hypervisor.specs.Answers.{coreNumber, trapNumber, answered, refused, refusedCore}
+use Rattle.hypervisor.specs.Trap.{ec, exceptionClass, forwardCall, byClass, waits, handleSyncLower}
 use Rattle.hypervisor.specs.Cores.{noCore, saveCore, mayReply, replied, completeCall, replyTo, replyCore, onCore, saveOn, replyOn, trapOn}
 use Rattle.hypervisor.specs.Calls.{State, HostCall, build, save, trap, reply, write-gpr, insert, get, remove, answerNumber, withPolicy, withCores, withMap, call}
 use Rattle.hypervisor.proofs.Laws.{by-class}
@@ -66,8 +60,8 @@ reply-to-kept : (core : Core) (wait : Wait) (result : HvcReply) → CoreKept cor
 reply-to-kept core Nothing result = λ h. refl
 reply-to-kept core (Call conduit recipient) result =
     cond-all (CoreKept core) (mayReply recipient (result .kind)) (completeCall conduit core result) (refusedCore UnknownReplyKind core)
-      (complete-kept core conduit result)
-      (λ h. refl)
+    (complete-kept core conduit result)
+    (λ h. refl)
 
 reply-kept : (core : Core) (result : HvcReply) → CoreKept core (replyCore core result)
 unfolding replyCore
@@ -82,11 +76,11 @@ unfolding handleSyncLower exceptionClass byClass forwardCall answered
 step-kept regions core counter registers =
     cond-all (TrapKept core counter) (waits (core .wait)) _ _ (λ h. (refl, refl))
     (by-class (λ c. TrapKept core counter (byClass c regions core counter registers)) (ec (registers .esr))
-      (λ e h. absurd (h refl))
-      (λ e h. absurd (h refl))
-      (λ e h. abort-refused regions core counter registers
-        (λ z. h (abort-answer-number (handleDataAbort regions core counter registers .answer) ∙ z)))
-      (λ hvc smc abort h. (refl, refl)))
+    (λ e h. absurd (h refl))
+    (λ e h. absurd (h refl))
+    (λ e h. abort-refused regions core counter registers
+    (λ z. h (abort-answer-number (handleDataAbort regions core counter registers .answer) ∙ z)))
+    (λ hvc smc abort h. (refl, refl)))
 
 -- a step of one of the eight that is refused leaves them all
 on-core-kept : (cores : List Core) (i : ℕ) (step : Core → CoreStep) → CoreKept (getD cores i noCore) (step (getD cores i noCore))
@@ -94,8 +88,8 @@ on-core-kept : (cores : List Core) (i : ℕ) (step : Core → CoreStep) → Core
 unfolding onCore
 on-core-kept cores i step kept =
     cond-all (λ (s : CoresStep). (coreNumber (s .answer) ≡ 0 → ⊥) → s .cores ≡ cores) (ltb 7 i) _ _
-      (λ h. refl)
-      (λ h. rw (kept h) (set-getD cores i noCore))
+    (λ h. refl)
+    (λ h. rw (kept h) (set-getD cores i noCore))
 
 trap-on-kept : (s : State) (core : ℕ) (registers : TrapRegisters) →
     let t = trapOn (s .policy) (s .cores) (s .counter) core registers in
@@ -104,13 +98,13 @@ trap-on-kept : (s : State) (core : ℕ) (registers : TrapRegisters) →
 unfolding trapOn
 trap-on-kept s core registers =
     cond-all
-      (λ (t : Trapped). (trapNumber (t .answer) ≡ 0 → ⊥)
-        → _≡_ {A = State} (record { policy = t .policy; cores = t .cores; counter = t .counter; map = s .map }) s)
-      (ltb 7 core) _ _
-      (λ h. refl)
-      (λ h.
-        let kept = step-kept (regionsHeld (s .policy)) (getD (s .cores) core noCore) (s .counter) registers h in
-        rw (kept .0, kept .1, set-getD (s .cores) core noCore))
+    (λ (t : Trapped). (trapNumber (t .answer) ≡ 0 → ⊥)
+    → _≡_ {A = State} (record { policy = t .policy; cores = t .cores; counter = t .counter; map = s .map }) s)
+    (ltb 7 core) _ _
+    (λ h. refl)
+    (λ h.
+    let kept = step-kept (regionsHeld (s .policy)) (getD (s .cores) core noCore) (s .counter) registers h in
+    rw (kept .0, kept .1, set-getD (s .cores) core noCore))
 
 write-kept : (core : Core) (index value : ℕ) → (writeNumber (writeGpr core index value .answer) ≡ 0 → ⊥) → writeGpr core index value .core ≡ core
 unfolding writeGpr
@@ -138,14 +132,3 @@ refusal-keeps s (write-gpr core index value) h =
 refusal-keeps s (insert key value) h = ap (withMap s) (insert-kept (s .map) key value h)
 refusal-keeps s (get key) h = refl
 refusal-keeps s (remove key) h = absurd (h refl)
-
--- `Wait` is nothing exactly outside a forwarded call and its reply: what each step does to the wait of its core.
-save-waits : (core : Core) (x : List ℕ) (elr spsr : ℕ) → saveCore core x elr spsr .core .wait ≡ core .wait
-unfolding saveCore
-save-waits core x elr spsr = cond-all (λ (s : CoreStep). s .core .wait ≡ core .wait) (waits (core .wait)) _ _ refl refl
-
-write-waits : (core : Core) (index value : ℕ) → writeGpr core index value .core .wait ≡ core .wait
-unfolding writeGpr withRegisters
-write-waits core index value =
-    let Same : GprWritten → Type 0 = λ w. w .core .wait ≡ core .wait in
-    cond-all Same (ltb index 31) _ _ refl (cond-all Same (eqb index 31) _ _ refl refl)

@@ -4,3 +4,4 @@ pub mod Refusals
 pub mod Steps
 pub mod CounterWord
 pub mod Calls
+pub mod Waiting

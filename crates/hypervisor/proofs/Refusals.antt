@@ -9,7 +9,7 @@ use lib.Dec.{eqb, ltb}
 use lib.IntN.{ℤ}
 use lib.ListN.{getD}
 use Rattle.lists.specs.Refusals.{case, firstMet}
-use Rattle.memory_access.proofs.Laws.{cond-map}
+use Rattle.lists.proofs.Laws.{cond-map}
 use Rattle.stage2.specs.declared.Policy.{Policy}
 use Rattle.stage2.specs.Policy.{regionsHeld}
 use Rattle.stage2_range.specs.declared.MemoryAccessRegion.{MemoryAccessRegion}

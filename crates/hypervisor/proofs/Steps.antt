@@ -8,8 +8,7 @@ use borrow.Author.Tests.{le-ltb}
 use lib.Dec.{ltb}
 use lib.ListN.{length, getD, set, length-set}
 use lib.Seq.{getD-set-same, getD-set-other}
-use Rattle.lists.proofs.Laws.{cond-same}
-use Rattle.memory_access.proofs.Laws.{cond-map}
+use Rattle.lists.proofs.Laws.{cond-same, cond-map}
 use Rattle.stage2.specs.declared.Policy.{Policy}
 use Rattle.stage2.specs.Policy.{regionsHeld}
 use Rattle.data_abort.specs.declared.TrapRegisters.{TrapRegisters}

@@ -11,6 +11,7 @@ use lib.Dec.{eqb, leb, lit<, lit≤}
 use lib.IntN.{pos, negsuc}
 use lib.ListN.{replicate}
 use lib.Pow.{high-ones, pow-pos, pow-mono, mod-pow-add}
+use Rattle.lists.proofs.Laws.{cond-map}
 use Rattle.memory_access.specs.Syndrome.{bitsAt, bitAt, isv, sas, sse, srt, sf, wnr, widthOf, bitsOf, kindOf, faultIpa, decodeAccess, numberOf, kindNumber, flagNumber, valuesOf}
 use Rattle.memory_access.specs.Transfer.{lowBits, signExtend, twosComplement}
 use Rattle.memory_access.specs.declared.Fipa.{Fipa}
@@ -153,11 +154,6 @@ size-doubles (suc zero) h = refl
 size-doubles (suc (suc zero)) h = refl
 size-doubles (suc (suc (suc zero))) h = refl
 size-doubles (suc (suc (suc (suc n)))) h = absurd (omega arith)
-
--- a function of a choice is the choice of its values
-pub cond-map : {A B : Type 0} (f : A → B) (b : Bool) (x y : A) → f (cond b x y) ≡ cond b (f x) (f y)
-cond-map f true x y = refl
-cond-map f false x y = refl
 
 -- "ISV clear refuses", with 19, and nothing else does
 pub decode-number : (iss : ℕ) (fipa : Fipa) (far : ℕ) → numberOf (decodeAccess iss fipa far) ≡ cond (isv iss) 0 19

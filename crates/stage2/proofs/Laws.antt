@@ -8,8 +8,7 @@ use borrow.Author.Tests.{lt-leb, leb-false, not-false}
 use lib.Dec.{leb}
 use lib.ListN.{drop}
 use Rattle.lists.specs.Refusals.{Case, firstMet}
-use Rattle.lists.proofs.Laws.{met-sooner, met-later, all-numbered}
-use Rattle.memory_access.proofs.Laws.{cond-map}
+use Rattle.lists.proofs.Laws.{met-sooner, met-later, all-numbered, cond-map}
 use Rattle.stage2_range.specs.declared.Stage2ConfigError.{Stage2ConfigError}
 use Rattle.stage2_range.specs.declared.Stage2ConfigError.the-variants.{RangeBaseNotPageAligned, EmptyRange, RangeSizeNotPageMultiple, RangeEndOverflow, TooManyAllowedRanges, AllowedRangeOverlap, AllowedRangeOverlapsMemoryAccessHandler, TooManyMemoryAccessHandlerRegions, MemoryAccessHandlerRangeOverlap, UnknownMemoryHandler}
 use Rattle.stage2_range.specs.declared.Stage2Result.{Stage2Result}

@@ -1,0 +1,189 @@
+-- A core waits exactly between a forwarded call and its reply. Assumes nothing.
+use Prim.Native.Nat.{ℕ, zero, suc, _≤_}
+use mathlib.Core.Path.{_≡_, refl, sym, _∙_, ap}
+use mathlib.Core.Bool.{Bool, true, false, _&&_, cond, true≢false}
+use mathlib.Core.List.{List, [], _∷_}
+use native.Mathlib.Omega.{arith}
+use borrow.Author.Tests.{eqb-true, eqb-false}
+use lib.Dec.{eqb}
+use lib.ListN.{length, getD, set, replicate, length-set}
+use lib.Seq.{getD-set-same, getD-set-other}
+use Rattle.lists.proofs.Laws.{cond-all}
+use Rattle.stage2.specs.Policy.{regionsHeld}
+use Rattle.stage2_range.specs.declared.MemoryAccessRegion.{MemoryAccessRegion}
+use Rattle.exceptions.specs.declared.Core.{Core}
+use Rattle.exceptions.specs.declared.Conduit.{Conduit}
+use Rattle.exceptions.specs.declared.Conduit.the-variants.{Hvc, Smc}
+use Rattle.exceptions.specs.declared.Wait.{Wait}
+use Rattle.exceptions.specs.declared.Wait.the-variants.{Nothing, Call}
+use Rattle.exceptions.specs.Registers.{freshCore, writeGpr}
+use Rattle.exceptions.proofs.Laws.{write-wait}
+use Rattle.hvc_response.specs.declared.HvcResultKind.{HvcResultKind}
+use Rattle.hvc_response.specs.declared.HvcResultKind.the-variants.{Result, UnknownKind}
+use Rattle.hvc_response.specs.Response.{resultOfKind}
+use Rattle.data_abort.specs.declared.AbortAnswer.{AbortAnswer}
+use Rattle.data_abort.specs.declared.AbortAnswer.the-variants as abort
+use Rattle.data_abort.specs.declared.TrapRegisters.{TrapRegisters}
+use Rattle.data_abort.specs.DataAbort.{handleDataAbort}
+use Rattle.data_abort.proofs.Laws.{abort-wait}
+use Rattle.hypervisor.specs.declared.CoreError.the-variants.{UnknownReplyKind}
+use Rattle.hypervisor.specs.declared.CoreStep.{CoreStep}
+use Rattle.hypervisor.specs.declared.HvcReply.{HvcReply}
+use Rattle.hypervisor.specs.declared.TrapStep.{TrapStep}
+use Rattle.hypervisor.specs.declared.Trapped.{Trapped}
+use Rattle.hypervisor.specs.Answers.{abortAnswer, answered, refusedCore}
+use Rattle.hypervisor.specs.Trap.{ec, exceptionClass, withWait, forwardCall, byClass, waits, handleSyncLower}
+use Rattle.hypervisor.specs.Cores.{noCore, freshCores, saveCore, mayReply, resumed, replied, completeCall, replyTo, replyCore, onCore, saveOn, replyOn, trapOn}
+use Rattle.hypervisor.specs.Calls.{State, freshState, HostCall, build, save, trap, reply, write-gpr, insert, get, remove, call, callAll, waitOf, isForwarded, isAccepted, outstandingAfter, outstanding}
+use Rattle.hypervisor.proofs.Laws.{by-class}
+use Rattle.hypervisor.proofs.Steps.{trap-step, trap-others, trap-places, core-step, core-others, core-places}
+
+-- What each step does to the wait of its core.
+save-wait : (core : Core) (x : List ℕ) (elr spsr : ℕ) → saveCore core x elr spsr .core .wait ≡ core .wait
+unfolding saveCore
+save-wait core x elr spsr = cond-all (λ (s : CoreStep). s .core .wait ≡ core .wait) (waits (core .wait)) _ _ refl refl
+
+-- a trap makes its core wait exactly where it forwards
+abbrev TrapWaits : Core → TrapStep → Type 0
+TrapWaits core s = waits (s .core .wait) ≡ cond (isForwarded (s .answer)) true (waits (core .wait))
+
+not-forwarded : (a : AbortAnswer) → isForwarded (abortAnswer a) ≡ false
+not-forwarded (abort.Handled kind) = refl
+not-forwarded abort.Injected = refl
+not-forwarded abort.NoGuestVector = refl
+
+trap-waits : (regions : List MemoryAccessRegion) (core : Core) (counter : ℕ) (registers : TrapRegisters)
+    → TrapWaits core (handleSyncLower regions core counter registers)
+unfolding handleSyncLower exceptionClass byClass forwardCall withWait answered
+trap-waits regions core counter registers =
+    cond-all (TrapWaits core) (waits (core .wait)) _ _ refl
+    (by-class (λ c. TrapWaits core (byClass c regions core counter registers)) (ec (registers .esr))
+    (λ e. refl)
+    (λ e. refl)
+    (λ e. rw (not-forwarded (handleDataAbort regions core counter registers .answer), abort-wait regions core counter registers))
+    (λ hvc smc abort. refl))
+
+-- a reply ends the wait exactly where it is accepted
+abbrev ReplyWaits : Core → CoreStep → Type 0
+ReplyWaits core s = waits (s .core .wait) ≡ cond (isAccepted (s .answer)) false (waits (core .wait))
+
+resumed-idle : (conduit : Conduit) (core : Core) → waits (resumed conduit core .wait) ≡ false
+unfolding resumed withWait
+resumed-idle Hvc core = refl
+resumed-idle Smc core = refl
+
+replied-waits : (result : HvcResultKind) (conduit : Conduit) (core : Core) (values : List ℕ)
+    → ReplyWaits core (replied result conduit core values)
+replied-waits (Result result) conduit core values = resumed-idle conduit _
+replied-waits UnknownKind conduit core values = refl
+
+complete-waits : (conduit : Conduit) (core : Core) (result : HvcReply) → ReplyWaits core (completeCall conduit core result)
+unfolding completeCall
+complete-waits conduit core result =
+    replied-waits (resultOfKind (result .kind) (getD (result .values) 0 0) (result .error)) conduit core (result .values)
+
+reply-to-waits : (wait : Wait) (core : Core) (result : HvcReply) → ReplyWaits core (replyTo wait core result)
+reply-to-waits Nothing core result = refl
+reply-to-waits (Call conduit recipient) core result =
+    cond-all (ReplyWaits core) (mayReply recipient (result .kind)) (completeCall conduit core result) (refusedCore UnknownReplyKind core)
+    (complete-waits conduit core result)
+    refl
+
+reply-waits : (core : Core) (result : HvcReply) → ReplyWaits core (replyCore core result)
+unfolding replyCore
+reply-waits core result = reply-to-waits (core .wait) core result
+
+-- One call, seen from core `i`: its own steps do this to its wait, and all others leave it.
+module _ (s : State) (i : ℕ) (within : i ≤ 7) (places : length (s .cores) ≡ 8) where
+  -- a step of core `j`, by whether that is core `i`
+  by-core : (after : ℕ → List Core) (own : Bool → ℕ → Bool)
+      → waits (getD (after i) i noCore .wait) ≡ own true i
+      → ((j : ℕ) → (i ≡ j → ⊥) → waits (getD (after j) i noCore .wait) ≡ own false j)
+      → (j : ℕ) → waits (getD (after j) i noCore .wait) ≡ own (eqb j i) j
+  by-core after own here elsewhere j = go (eqb j i) refl
+    where
+      go : (b : Bool) → eqb j i ≡ b → waits (getD (after j) i noCore .wait) ≡ own b j
+      go true e = rw (eqb-true j i e) here
+      go false e = elsewhere j (λ z. eqb-false j i e (sym z))
+
+  trap-after : (registers : TrapRegisters) (j : ℕ)
+      → waits (waitOf (call s (trap j registers) .state) i) ≡ outstandingAfter s i (waits (waitOf s i)) (trap j registers)
+  trap-after registers =
+      let t : ℕ → Trapped = λ j. trapOn (s .policy) (s .cores) (s .counter) j registers in
+      let step = trap-step (s .policy) (s .cores) (s .counter) i registers within places in
+      by-core (λ j. t j .cores) (λ b j. cond (b && isForwarded (t j .answer)) true (waits (waitOf s i)))
+      (rw (ap (λ (x : TrapStep). x .core) step, ap (λ (x : TrapStep). x .answer) step)
+      (trap-waits (regionsHeld (s .policy)) (getD (s .cores) i noCore) (s .counter) registers))
+      (λ j h. ap (λ (c : Core). waits (c .wait)) (trap-others (s .policy) (s .cores) (s .counter) j registers i h))
+
+  reply-after : (result : HvcReply) (j : ℕ)
+      → waits (waitOf (call s (reply j result) .state) i) ≡ outstandingAfter s i (waits (waitOf s i)) (reply j result)
+  unfolding replyOn
+  reply-after result =
+      let step : Core → CoreStep = λ core. replyCore core result in
+      let own = core-step (s .cores) i step within places in
+      by-core (λ j. onCore (s .cores) j step .cores)
+      (λ b j. cond (b && isAccepted (onCore (s .cores) j step .answer)) false (waits (waitOf s i)))
+      (rw (ap (λ (x : CoreStep). x .core) own, ap (λ (x : CoreStep). x .answer) own) (reply-waits (getD (s .cores) i noCore) result))
+      (λ j h. ap (λ (c : Core). waits (c .wait)) (core-others (s .cores) j step i h))
+
+  save-after : (x : List ℕ) (elr spsr j : ℕ) → waits (waitOf (call s (save j x elr spsr) .state) i) ≡ waits (waitOf s i)
+  unfolding saveOn
+  save-after x elr spsr =
+      let step : Core → CoreStep = λ core. saveCore core x elr spsr in
+      by-core (λ j. onCore (s .cores) j step .cores) (λ b j. waits (waitOf s i))
+      (rw (ap (λ (x : CoreStep). x .core) (core-step (s .cores) i step within places), save-wait (getD (s .cores) i noCore) x elr spsr))
+      (λ j h. ap (λ (c : Core). waits (c .wait)) (core-others (s .cores) j step i h))
+
+  write-after : (index value j : ℕ) → waits (waitOf (call s (write-gpr j index value) .state) i) ≡ waits (waitOf s i)
+  write-after index value =
+      let written : ℕ → Core = λ j. writeGpr (getD (s .cores) j noCore) index value .core in
+      by-core (λ j. set (s .cores) j (written j)) (λ b j. waits (waitOf s i))
+      (rw (getD-set-same (s .cores) i (written i) noCore (omega arith), write-wait (getD (s .cores) i noCore) index value))
+      (λ j h. ap (λ (c : Core). waits (c .wait)) (getD-set-other (s .cores) j i (written j) noCore h))
+
+  waits-after : (c : HostCall) → waits (waitOf (call s c .state) i) ≡ outstandingAfter s i (waits (waitOf s i)) c
+  waits-after (build c) = refl
+  waits-after (save core x elr spsr) = save-after x elr spsr core
+  waits-after (trap core registers) = trap-after registers core
+  waits-after (reply core result) = reply-after result core
+  waits-after (write-gpr core index value) = write-after index value core
+  waits-after (insert key value) = refl
+  waits-after (get key) = refl
+  waits-after (remove key) = refl
+
+-- every call keeps the number of cores
+pub call-places : (s : State) (c : HostCall) → length (call s c .state .cores) ≡ length (s .cores)
+unfolding saveOn replyOn
+call-places s (build c) = refl
+call-places s (save core x elr spsr) = core-places (s .cores) core _
+call-places s (trap core registers) = trap-places (s .policy) (s .cores) (s .counter) core registers
+call-places s (reply core result) = core-places (s .cores) core _
+call-places s (write-gpr core index value) = length-set (s .cores) core _
+call-places s (insert key value) = refl
+call-places s (get key) = refl
+call-places s (remove key) = refl
+
+waits-all : (s : State) (i : ℕ) → i ≤ 7 → length (s .cores) ≡ 8 → (calls : List HostCall)
+    → waits (waitOf (callAll s calls) i) ≡ outstanding s i (waits (waitOf s i)) calls
+waits-all s i h n [] = refl
+waits-all s i h n (c ∷ cs) = rw (← waits-after s i h n c) (waits-all (call s c .state) i h (call-places s c ∙ n) cs)
+
+fresh-idle : (n i : ℕ) → getD (replicate n freshCore) i noCore .wait ≡ Nothing
+unfolding freshCore noCore
+fresh-idle zero i = refl
+fresh-idle (suc n) zero = refl
+fresh-idle (suc n) (suc i) = fresh-idle n i
+
+-- From fresh, a core waits exactly where a call of its own was forwarded and has had no reply.
+pub wait-outstanding : (calls : List HostCall) (i : ℕ) → i ≤ 7
+    → waits (waitOf (callAll freshState calls) i) ≡ outstanding freshState i false calls
+unfolding freshState freshCores
+wait-outstanding calls i h =
+    waits-all freshState i h refl calls
+    ∙ ap (λ (b : Bool). outstanding freshState i b calls) (ap waits (fresh-idle 8 i))
+
+-- a core that does not wait has nothing to wait for
+pub idle-nothing : (w : Wait) → waits w ≡ false → w ≡ Nothing
+idle-nothing Nothing h = refl
+idle-nothing (Call conduit recipient) h = absurd (true≢false h)
