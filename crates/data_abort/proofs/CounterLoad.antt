@@ -88,7 +88,8 @@ done-steady : (result : MemoryWriteResult) (core : Core) → Steady (writeDone r
 done-steady write.Handled core counter counter′ = refl
 done-steady write.Fault core counter counter′ = refl
 
-write-steady : (handler : MemoryHandler) (access : MemoryAccess) (offset : ℕ) (core : Core) → Steady (writeThrough handler access offset core)
+write-steady : (handler : MemoryHandler) (access : MemoryAccess) (offset : ℕ) (core : Core)
+    → Steady (writeThrough handler access offset core)
 unfolding writeThrough
 write-steady Absent access offset core counter counter′ = refl
 write-steady FilteredMmio access offset core counter counter′ = done-steady (writeFilteredMmio _) core counter counter′

@@ -14,7 +14,7 @@ use Rattle.memory_access.specs.declared.MemoryAccessKind.{MemoryAccessKind}
 use Rattle.memory_access.specs.declared.MemoryAccessKind.the-variants.{Read, Write}
 use Rattle.memory_access.specs.declared.Decoded.{Decoded}
 use Rattle.memory_access.specs.declared.Decoded.the-variants.{Access, NoSyndrome}
-use Rattle.memory_access.specs.Syndrome.{decodeAccess}
+use Rattle.memory_access.specs.Syndrome.{bitsAt, decodeAccess}
 use Rattle.memory_access.specs.Transfer.{extendReadResult}
 use Rattle.stage2_range.specs.declared.MemoryAccessRegion.{MemoryAccessRegion}
 use Rattle.stage2_range.specs.declared.MemoryAccessHandlerMatch.{MemoryAccessHandlerMatch}
@@ -61,6 +61,12 @@ unfolding withEc
 ec-replaced e h =
     ap (λ (x : ℕ). bitOr x (0x25 * 2 ^ 26)) (ec-cleared e h)
     ∙ ec-placed (e / 2 ^ 32) (e % 2 ^ 26) (mod-lt e (pow-pos 26))
+
+-- "the whole ESR with EC 0x25": bits 31:26 are the class, and all others are as they were
+pub class-replaced : (esr class : ℕ) → class < 2 ^ 6
+    → (bitsAt (withEc esr class) 26 6 ≡ class) × (withEc esr class % 2 ^ 26 ≡ esr % 2 ^ 26) × (withEc esr class / 2 ^ 32 ≡ esr / 2 ^ 32)
+unfolding withEc bitsAt
+class-replaced esr class h = (omega arith, omega arith, omega arith)
 
 -- 13 exactly where an injection is due and VBAR is 0
 pub abort-number : (regions : List MemoryAccessRegion) (core : Core) (counter : ℕ) (trap : TrapRegisters)

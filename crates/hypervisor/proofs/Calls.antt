@@ -106,7 +106,8 @@ trap-on-kept s core registers =
     let kept = step-kept (regionsHeld (s .policy)) (getD (s .cores) core noCore) (s .counter) registers h in
     rw (kept .0, kept .1, set-getD (s .cores) core noCore))
 
-write-kept : (core : Core) (index value : ℕ) → (writeNumber (writeGpr core index value .answer) ≡ 0 → ⊥) → writeGpr core index value .core ≡ core
+write-kept : (core : Core) (index value : ℕ) → (writeNumber (writeGpr core index value .answer) ≡ 0 → ⊥)
+    → writeGpr core index value .core ≡ core
 unfolding writeGpr
 write-kept core index value =
     let Kept : GprWritten → Type 0 = λ w. (writeNumber (w .answer) ≡ 0 → ⊥) → w .core ≡ core in

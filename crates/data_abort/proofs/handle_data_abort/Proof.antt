@@ -21,7 +21,12 @@ returns c = rw (← c .before .before .before .before .try-memory-access-handler
 
 returns-2 : tie.Need-returns-2
 unfolding handleDataAbort
-returns-2 c = rw (c .inject-data-abort .ensures, ← c .before .before .before .before .try-memory-access-handler .ensures, c .before .enum-told .given .1)
+returns-2 c =
+    rw (
+      c .inject-data-abort .ensures,
+      ← c .before .before .before .before .try-memory-access-handler .ensures,
+      c .before .enum-told .given .1,
+    )
 
 pub handle-data-abort-spec : {M : Type 1} → statement M
 handle-data-abort-spec =

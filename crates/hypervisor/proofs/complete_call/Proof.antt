@@ -41,7 +41,13 @@ refuse-core-requires c κs = search needs
 
 returns : tie.Need-returns
 unfolding completeCall
-returns c = rw (c .resume .ensures, c .before .modify-register-state .ensures, ← named (c .before .before .before .before .before), c .before .before .before .result .given .1)
+returns c =
+    rw (
+      c .resume .ensures,
+      c .before .modify-register-state .ensures,
+      ← named (c .before .before .before .before .before),
+      c .before .before .before .result .given .1,
+    )
 
 returns-2 : tie.Need-returns-2
 unfolding completeCall

@@ -18,7 +18,13 @@ returns-3 c = rw (← field (c .before .args .esr) 26 6, c .match .keys3)
 
 returns-4 : tie.Need-returns-4
 unfolding exceptionClass
-returns-4 c = rw (← field (c .before .args .esr) 26 6, ne-eqb _ _ (c .match .rest .0 .0 .1), ne-eqb _ _ (c .match .rest .0 .1), ne-eqb _ _ (c .match .rest .1))
+returns-4 c =
+    rw (
+      ← field (c .before .args .esr) 26 6,
+      ne-eqb _ _ (c .match .rest .0 .0 .1),
+      ne-eqb _ _ (c .match .rest .0 .1),
+      ne-eqb _ _ (c .match .rest .1),
+    )
 
 pub exception-class-spec : {M : Type 1} → statement M
 exception-class-spec = tie.close (tie.spec returns returns-2 returns-3 returns-4)

@@ -28,7 +28,13 @@ wait-for-requires c κs = search needs
 
 returns : tie.Need-returns
 unfolding forwardCall
-returns c = rw (c .wait-for .ensures, c .before .first-registers .ensures, c .before .before .registers-for .ensures, c .before .before .before .recipient-of .ensures)
+returns c =
+    rw (
+      c .wait-for .ensures,
+      c .before .first-registers .ensures,
+      c .before .before .registers-for .ensures,
+      c .before .before .before .recipient-of .ensures,
+    )
 
 pub forward-call-spec : {M : Type 1} → statement M
 forward-call-spec =

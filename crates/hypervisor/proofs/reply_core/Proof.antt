@@ -28,11 +28,21 @@ returns c = rw (c .refuse-core .ensures, c .before .enum-told .given .1)
 
 returns-2 : tie.Need-returns-2
 unfolding replyCore
-returns-2 c = rw (c .complete-call .ensures, c .before .before .before .before .wait .given .1, sym (c .before .before .may-reply .ensures) ∙ c .before .if1 .taken)
+returns-2 c =
+    rw (
+      c .complete-call .ensures,
+      c .before .before .before .before .wait .given .1,
+      sym (c .before .before .may-reply .ensures) ∙ c .before .if1 .taken,
+    )
 
 returns-3 : tie.Need-returns-3
 unfolding replyCore
-returns-3 c = rw (c .refuse-core2 .ensures, c .before .before .before .before .wait .given .1, sym (c .before .before .may-reply .ensures) ∙ c .before .if1 .left)
+returns-3 c =
+    rw (
+      c .refuse-core2 .ensures,
+      c .before .before .before .before .wait .given .1,
+      sym (c .before .before .may-reply .ensures) ∙ c .before .if1 .left,
+    )
 
 pub reply-core-spec : {M : Type 1} → statement M
 reply-core-spec =

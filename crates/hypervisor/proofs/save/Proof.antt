@@ -1,5 +1,4 @@
-use native.Mathlib.Omega.{arith}
-use borrow.Author.Tests.{lt-ltb, le-ltb}
+use borrow.Author.Tests.{le-leb, lt-leb}
 use Rattle.hypervisor.specs.Cores.{noCore, onCore, saveOn}
 use borrow.Author.Needs.{needs}
 use Rattle.hypervisor.proofs.save.Statement.{statement}
@@ -10,7 +9,7 @@ refuse-cores-requires c κs = search needs
 
 returns : tie.Need-returns
 unfolding onCore saveOn
-returns c = rw (c .refuse-cores .ensures, lt-ltb 7 (c .before .before .args .core) (omega (arith, c .before .if1 .taken)))
+returns c = rw (c .refuse-cores .ensures, le-leb _ _ (c .before .if1 .taken))
 
 mul-one : tie.Need-mul-one
 mul-one c = search needs
@@ -26,7 +25,7 @@ place-requires c κs = search needs
 
 returns-2 : tie.Need-returns-2
 unfolding onCore saveOn noCore
-returns-2 c = rw (c .place .ensures, c .before .save-core .ensures, le-ltb 7 (c .before .before .before .before .args .core) (omega (arith, c .before .before .before .if1 .left)))
+returns-2 c = rw (c .place .ensures, c .before .save-core .ensures, lt-leb _ _ (c .before .before .before .if1 .left))
 
 pub save-spec : {M : Type 1} → statement M
 save-spec =

@@ -1,5 +1,4 @@
-use native.Mathlib.Omega.{arith}
-use borrow.Author.Tests.{lt-ltb, le-ltb}
+use borrow.Author.Tests.{le-leb, lt-leb}
 use Rattle.hypervisor.specs.Cores.{noCore, trapOn}
 use borrow.Author.Needs.{needs}
 use Rattle.hypervisor.proofs.trap.Statement.{statement}
@@ -10,7 +9,7 @@ no-values-requires c κs = search needs
 
 returns : tie.Need-returns
 unfolding trapOn
-returns c = rw (c .no-values .ensures, lt-ltb 7 (c .before .before .args .core) (omega (arith, c .before .if1 .taken)))
+returns c = rw (c .no-values .ensures, le-leb _ _ (c .before .if1 .taken))
 
 mul-one : tie.Need-mul-one
 mul-one c = search needs
@@ -29,7 +28,7 @@ array-set-from-next c = search needs
 
 returns-2 : tie.Need-returns-2
 unfolding trapOn noCore
-returns-2 c = rw (c .before .before .handle-sync-lower .ensures, le-ltb 7 (c .before .before .before .before .before .before .args .core) (omega (arith, c .before .before .before .before .before .if1 .left)))
+returns-2 c = rw (c .before .before .handle-sync-lower .ensures, lt-leb _ _ (c .before .before .before .before .before .if1 .left))
 
 pub trap-spec : {M : Type 1} → statement M
 trap-spec =

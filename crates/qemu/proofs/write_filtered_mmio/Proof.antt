@@ -25,7 +25,13 @@ value-decides : (c : tie.Else2)
     → writeFilteredMmio (c .before .before .before .before .args .access)
     ≡ cond (eqb (c .before .before .before .before .args .access .value) 0x123456789ABCDEF0) Handled Fault
 unfolding writeFilteredMmio
-value-decides c = rw (← c .before .before .before .bits .ensures, eq-eqb _ _ (c .before .before .if1 .left), eq-eqb _ _ (c .if2 .left), cond-self (eqb (c .before .before .before .before .args .access .value) 0x123456789ABCDEF0))
+value-decides c =
+    rw (
+      ← c .before .before .before .bits .ensures,
+      eq-eqb _ _ (c .before .before .if1 .left),
+      eq-eqb _ _ (c .if2 .left),
+      cond-self (eqb (c .before .before .before .before .args .access .value) 0x123456789ABCDEF0),
+    )
 
 returns-3 : tie.Need-returns-3
 returns-3 c = rw (value-decides (c .before .before), ne-eqb _ _ (c .if3 .taken))

@@ -32,7 +32,12 @@ refuse-requires-2 c κs = search needs
 
 returns-2 : tie.Need-returns-2
 unfolding allowAnswerFor
-returns-2 c = rw (c .refuse2 .ensures, room (c .before .before .before), sym (c .before .before .overlaps-allowed .ensures) ∙ c .before .if2 .taken)
+returns-2 c =
+    rw (
+      c .refuse2 .ensures,
+      room (c .before .before .before),
+      sym (c .before .before .overlaps-allowed .ensures) ∙ c .before .if2 .taken,
+    )
 
 overlaps-regions-requires : tie.Need-overlaps-regions-requires
 overlaps-regions-requires c κs = search needs
@@ -42,7 +47,13 @@ refuse-requires-3 c κs = search needs
 
 returns-3 : tie.Need-returns-3
 unfolding allowAnswerFor
-returns-3 c = rw (c .refuse3 .ensures, room (c .before .before .before .before .before), apart (c .before .before .before), sym (c .before .before .overlaps-regions .ensures) ∙ c .before .if3 .taken)
+returns-3 c =
+    rw (
+      c .refuse3 .ensures,
+      room (c .before .before .before .before .before),
+      apart (c .before .before .before),
+      sym (c .before .before .overlaps-regions .ensures) ∙ c .before .if3 .taken,
+    )
 
 mul-range : tie.Need-mul-range
 mul-range c = search needs
@@ -55,7 +66,12 @@ add-next c = search needs
 
 returns-4 : tie.Need-returns-4
 unfolding allowAnswerFor withAllowed
-returns-4 c = rw (room (c .before .before .before .before), apart (c .before .before), sym (c .before .overlaps-regions .ensures) ∙ c .if3 .left)
+returns-4 c =
+    rw (
+      room (c .before .before .before .before),
+      apart (c .before .before),
+      sym (c .before .overlaps-regions .ensures) ∙ c .if3 .left,
+    )
 
 pub allow-valid-spec : {M : Type 1} → statement M
 allow-valid-spec =

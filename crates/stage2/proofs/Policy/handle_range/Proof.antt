@@ -32,7 +32,11 @@ returns-2 : tie.Need-returns-2
 unfolding handleRange
 returns-2 c =
     let a = c .before .before .before .args in
-    rw (c .refuse2 .ensures, lt-ltb (a .read) 2 (omega (arith, c .before .before .if1 .left)), le-ltb (a .write) 2 (omega (arith, c .before .if2 .taken)))
+    rw (
+      c .refuse2 .ensures,
+      lt-ltb (a .read) 2 (omega (arith, c .before .before .if1 .left)),
+      le-ltb (a .write) 2 (omega (arith, c .before .if2 .taken)),
+    )
 
 validate-range-requires : tie.Need-validate-range-requires
 validate-range-requires c κs = search needs
@@ -62,11 +66,27 @@ handle-valid-requires c κs = search needs
 
 returns-3 : tie.Need-returns-3
 unfolding handleRange
-returns-3 c = rw (c .refuse3 .ensures, read-known (c .before .before .before .before .before), write-known (c .before .before .before .before .before), ← c .before .before .before .before .validate-range .ensures, c .before .before .error .given .1)
+returns-3 c =
+    rw (
+      c .refuse3 .ensures,
+      read-known (c .before .before .before .before .before),
+      write-known (c .before .before .before .before .before),
+      ← c .before .before .before .before .validate-range .ensures,
+      c .before .before .error .given .1,
+    )
 
 returns-4 : tie.Need-returns-4
 unfolding handleRange
-returns-4 c = rw (c .handle-valid .ensures, c .before .memory-handler2 .ensures, c .before .before .memory-handler .ensures, read-known (c .before .before .before .before .before .before), write-known (c .before .before .before .before .before .before), ← c .before .before .before .before .before .validate-range .ensures, c .before .before .before .enum-told .given .1)
+returns-4 c =
+    rw (
+      c .handle-valid .ensures,
+      c .before .memory-handler2 .ensures,
+      c .before .before .memory-handler .ensures,
+      read-known (c .before .before .before .before .before .before),
+      write-known (c .before .before .before .before .before .before),
+      ← c .before .before .before .before .before .validate-range .ensures,
+      c .before .before .before .enum-told .given .1,
+    )
 
 pub handle-range-spec : {M : Type 1} → statement M
 handle-range-spec =
