@@ -1,2 +1,3 @@
--- What the worked values start from.
+-- What the worked values start from, and the bench table.
 pub mod Examples
+pub mod BenchTable

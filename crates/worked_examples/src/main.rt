@@ -7,10 +7,15 @@ ghost use Rattle.stage2_range.specs.Ranges.{alignedValue};
 ghost use Rattle.stage2_range.specs.Registry.{foundValues};
 ghost use Rattle.simple_map.specs.Map.{lookupValues};
 ghost use Rattle.exceptions.specs.Registers.{readValue};
-ghost use Rattle.worked_examples.specs.Examples.{signedHalfword, readable, twoPages, intoFullMap, counterLoad};
+ghost use Rattle.hypervisor.specs.Cores.{noCore};
+ghost use Rattle.worked_examples.specs.Examples.{signedHalfword, readable, twoPages, intoFullMap, counterLoad, oneRegion, savedCores, trapAt, trapped, replyOf, replied};
+use data_abort::TrapRegisters;
 use exceptions::Core;
 use exceptions::GprRead;
 use hvc_response::HvcResult;
+use hypervisor::CoresStep;
+use hypervisor::HvcReply;
+use hypervisor::Trapped;
 use libc::STDOUT_FILENO;
 use memory_access::Decoded;
 use memory_access::Fipa;
@@ -25,6 +30,7 @@ use simple_map::OptionItem;
 use simple_map::Place;
 use simple_map::SimpleMap;
 use simple_map::SuspendCoreData;
+use stage2::Policy;
 use stage2_range::AlignedUp;
 use stage2_range::MemoryAccessHandler;
 use stage2_range::MemoryAccessRegion;
@@ -318,6 +324,183 @@ fn counter_after_a_word_load() -> u64
     qemu::read_filtered_mmio(access, 5).counter
 }
 
+// The policy with the page at 0x0F000000 handled, loads and stores.
+fn one_region() -> Policy
+    ensures { λ r. ⌜ r ≡ oneRegion ⌝ }
+{
+    let built = Policy::new().handle_range(0x0F00_0000, 0x1000, 1, 1);
+    let policy = built.policy;
+    policy
+}
+
+fn allowed_over_a_region() -> u64
+    ensures { λ r. ⌜ r ≡ 7 ⌝ }
+{
+    let built = one_region().allow_range(0x0F00_0000, 0x1000, 0);
+    let answer = built.answer;
+    answer.number()
+}
+
+fn handled_with_half_2() -> u64
+    ensures { λ r. ⌜ r ≡ 20 ⌝ }
+{
+    let built = Policy::new().handle_range(0x1000, 0x1000, 1, 2);
+    let answer = built.answer;
+    answer.number()
+}
+
+fn offset_in_the_second_region() -> u64
+    ensures { λ r. ⌜ r ≡ 0x18 ⌝ }
+{
+    let built = one_region().handle_range(0x0900_0000, 0x1000, 1, 1);
+    let policy = built.policy;
+    found_offset(policy.find(Ipa(0x0F00_0018)))
+}
+
+// Eight cores, core 0 saved with one value in all its registers.
+fn saved_cores(value: u64) -> [Core; 8]
+    ensures { λ r. ⌜ r ≡ savedCores value ⌝ }
+{
+    let saved = hypervisor::save(hypervisor::fresh_cores(), 0, [value; 31], 0x1000, 5);
+    let cores = saved.cores;
+    cores
+}
+
+// ESR_EL2 of a call, and of a 64-bit load into x5 and a store from it.
+const ESR_HVC: u64 = 0x5800_0000;
+
+const ESR_SMC: u64 = 0x5C00_0000;
+
+const ESR_LOAD: u64 = 0x93C5_8000;
+
+const ESR_STORE: u64 = 0x93C5_8040;
+
+// What the hardware says of a trap.
+fn trap_at(esr: u64, far: u64, vbar: u64) -> TrapRegisters
+    ensures { λ r. ⌜ r ≡ trapAt esr far vbar ⌝ }
+{
+    TrapRegisters {
+        esr,
+        fipa: Fipa(0xF000),
+        far,
+        vbar,
+    }
+}
+
+// The trap of core 0 saved so.
+fn trapped(policy: Policy, value: u64, trap: TrapRegisters) -> Trapped
+    ensures { λ r. ⌜ r ≡ trapped policy value trap ⌝ }
+{
+    hypervisor::trap(policy, saved_cores(value), 0, 0, trap)
+}
+
+fn reply_of(kind: u64) -> HvcReply
+    ensures { λ r. ⌜ r ≡ replyOf kind ⌝ }
+{
+    HvcReply {
+        kind,
+        values: [7u64; 18],
+        error: -3,
+    }
+}
+
+// A call trapped so, and the reply to it.
+fn replied(esr: u64, x0: u64, kind: u64) -> CoresStep
+    ensures { λ r. ⌜ r ≡ replied esr x0 kind ⌝ }
+{
+    let called = trapped(Policy::new(), x0, trap_at(esr, 0, 0));
+    let cores = called.cores;
+    hypervisor::reply(cores, 0, reply_of(kind))
+}
+
+fn elr_of_core_0(cores: [Core; 8]) -> u64
+    ensures { λ r. ⌜ r ≡ getD cores 0 noCore .elr ⌝ }
+{
+    let core = cores[0];
+    core.elr
+}
+
+fn trap_of_core_8() -> u64
+    ensures { λ r. ⌜ r ≡ 10 ⌝ }
+{
+    let cores = hypervisor::fresh_cores();
+    let answer = hypervisor::trap(Policy::new(), cores, 0, 8, trap_at(ESR_SMC, 0, 0)).answer;
+    answer.number()
+}
+
+fn save_while_waiting() -> u64
+    ensures { λ r. ⌜ r ≡ 11 ⌝ }
+{
+    let called = trapped(Policy::new(), 0, trap_at(ESR_SMC, 0, 0));
+    let cores = called.cores;
+    let answer = hypervisor::save(cores, 0, [0u64; 31], 0, 0).answer;
+    answer.number()
+}
+
+fn trap_of_class_0() -> u64
+    ensures { λ r. ⌜ r ≡ 12 ⌝ }
+{
+    let answer = trapped(Policy::new(), 0, trap_at(0, 0, 0x8_0000)).answer;
+    answer.number()
+}
+
+fn abort_without_vector() -> u64
+    ensures { λ r. ⌜ r ≡ 13 ⌝ }
+{
+    let answer = trapped(Policy::new(), 0, trap_at(ESR_LOAD, 0, 0)).answer;
+    answer.number()
+}
+
+fn reply_to_an_idle_core() -> u64
+    ensures { λ r. ⌜ r ≡ 14 ⌝ }
+{
+    let answer = hypervisor::reply(hypervisor::fresh_cores(), 0, reply_of(1)).answer;
+    answer.number()
+}
+
+fn four_values_from_the_firmware() -> u64
+    ensures { λ r. ⌜ r ≡ 15 ⌝ }
+{
+    let answer = replied(ESR_SMC, 0x8400_0000, 2).answer;
+    answer.number()
+}
+
+fn register_after_the_second_counter_load() -> u64
+    ensures { λ r. ⌜ r ≡ 1 ⌝ }
+{
+    let load = trap_at(ESR_LOAD, 0x10, 0x8_0000);
+    let once = trapped(one_region(), 7, load);
+    let policy = once.policy;
+    let cores = once.cores;
+    let twice = hypervisor::trap(policy, cores, once.counter, 0, load);
+    let after = twice.cores;
+    let core = after[0];
+    let x = core.x;
+    x[5]
+}
+
+fn handled_store() -> u64
+    ensures { λ r. ⌜ r ≡ 2 ⌝ }
+{
+    let store = trap_at(ESR_STORE, 8, 0x8_0000);
+    let answer = trapped(one_region(), 0x1234_5678_9ABC_DEF0, store).answer;
+    answer.kind()
+}
+
+fn elr_after_an_hvc_error() -> u64
+    ensures { λ r. ⌜ r ≡ 0x1000 ⌝ }
+{
+    let cores = replied(ESR_HVC, 0, 4).cores;
+    elr_of_core_0(cores)
+}
+
+fn elr_after_an_smc_error() -> u64
+    ensures { λ r. ⌜ r ≡ 0x1004 ⌝ }
+{
+    let cores = replied(ESR_SMC, 0, 4).cores;
+    elr_of_core_0(cores)
+}
+
 // Begins a line with what is asked, once what was found is what is expected.
 fn asked(text: &[u8], found: u64, expected: u64)
     requires { ⌜ found ≡ expected ⌝ }
@@ -426,10 +609,55 @@ fn counters() {
     );
 }
 
+fn policies() {
+    number(b"allow over a region", allowed_over_a_region(), 7);
+    number(b"handle with write half 2", handled_with_half_2(), 20);
+    value(
+        b"regions 0x0F000000, then 0x09000000: offset of 0x0F000018",
+        offset_in_the_second_region(),
+        0x18,
+    );
+}
+
+fn cores() {
+    number(b"trap of core 8", trap_of_core_8(), 10);
+    number(b"save while waiting", save_while_waiting(), 11);
+    number(b"trap with ESR 0", trap_of_class_0(), 12);
+    number(b"data abort, no region, VBAR 0", abort_without_vector(), 13);
+    number(b"reply to an idle core", reply_to_an_idle_core(), 14);
+    number(
+        b"reply of kind 2 to a firmware call",
+        four_values_from_the_firmware(),
+        15,
+    );
+    value(
+        b"x5 after two loads of the counter",
+        register_after_the_second_counter_load(),
+        1,
+    );
+    value(
+        b"kind of a store of 0x123456789ABCDEF0 at 8",
+        handled_store(),
+        2,
+    );
+    value(
+        b"ELR 0x1000 after an HVC and an error",
+        elr_after_an_hvc_error(),
+        0x1000,
+    );
+    value(
+        b"ELR 0x1000 after an SMC and an error",
+        elr_after_an_smc_error(),
+        0x1004,
+    );
+}
+
 fn main() {
     accesses();
     ranges();
     maps();
     registers();
     counters();
+    policies();
+    cores();
 }

@@ -1,10 +1,18 @@
+use mathlib.Core.Path.{_≡_}
+use Rattle.memory_access.specs.Syndrome.{decodeAccess}
 use native.Mathlib.Omega.{arith}
 use lib.Bits.{mask-lt}
 use Rattle.memory_access.proofs.Laws.{low}
-use Rattle.data_abort.specs.DataAbort.{tryMemoryAccess}
+use Rattle.data_abort.specs.DataAbort.{iss, tryMemoryAccess}
 use borrow.Author.Needs.{needs}
 use Rattle.data_abort.proofs.try_memory_access_handler.Statement.{statement}
 use Rattle.data_abort.proofs.try_memory_access_handler.Tie as tie
+
+-- what decode answers to the syndrome's ISS
+decoded : (c : tie.After-decode) →
+    let trap = c .before .before .before .args .trap in
+    c .decode .result ≡ decodeAccess (iss (trap .esr)) (trap .fipa) (trap .far)
+decoded c = rw (← low (c .before .before .before .args .trap .esr) 25) (c .decode .ensures)
 
 cast-iss : tie.Need-cast-iss
 cast-iss c = omega (arith, mask-lt (c .before .args .trap .esr) 25)
@@ -41,8 +49,7 @@ unfolding tryMemoryAccess
 returns c =
     rw (
       c .access-in .ensures,
-      ← low (c .before .before .before .before .before .before .before .before .before .before .before .before .args .trap .esr) 25,
-      ← c .before .before .before .before .before .before .before .before .before .decode .ensures,
+      ← decoded (c .before .before .before .before .before .before .before .before .before),
       c .before .before .before .before .before .before .before .access .given .1,
       ← c .before .before .before .before .find-region .ensures,
       c .before .before .found .given .1,
@@ -53,8 +60,7 @@ unfolding tryMemoryAccess
 returns-2 c =
     rw (
       c .unhandled .ensures,
-      ← low (c .before .before .before .before .before .before .before .before .before .before .before .args .trap .esr) 25,
-      ← c .before .before .before .before .before .before .before .before .decode .ensures,
+      ← decoded (c .before .before .before .before .before .before .before .before),
       c .before .before .before .before .before .before .access .given .1,
       ← c .before .before .before .find-region .ensures,
       c .before .enum-told .given .1,
@@ -62,13 +68,7 @@ returns-2 c =
 
 returns-3 : tie.Need-returns-3
 unfolding tryMemoryAccess
-returns-3 c =
-    rw (
-      c .unhandled2 .ensures,
-      ← low (c .before .before .before .before .before .before .args .trap .esr) 25,
-      ← c .before .before .before .decode .ensures,
-      c .before .enum-told2 .given .1,
-    )
+returns-3 c = rw (c .unhandled2 .ensures, ← decoded (c .before .before .before), c .before .enum-told2 .given .1)
 
 pub try-memory-access-handler-spec : {M : Type 1} → statement M
 try-memory-access-handler-spec =

@@ -1,7 +1,19 @@
+use mathlib.Core.Path.{_≡_}
+use Rattle.memory_access.specs.Transfer.{storeValue}
+use Rattle.exceptions.specs.Registers.{readGpr, readValue}
+use Rattle.qemu.specs.FilteredMmio.{writeFilteredMmio}
 use Rattle.data_abort.specs.DataAbort.{writeThrough}
 use borrow.Author.Needs.{needs}
 use Rattle.data_abort.proofs.write_through.Statement.{statement}
 use Rattle.data_abort.proofs.write_through.Tie as tie
+
+-- what the page answers to the store
+stored : (c : tie.After-write-filtered-mmio) →
+    let a = c .before .before .before .before .before .before .args in
+    let value = storeValue (a .access) (readValue (readGpr (a .core) (a .access .«register_index»))) in
+    c .write-filtered-mmio .result
+    ≡ writeFilteredMmio (record { ipa = a .access .ipa; offset = a .offset; width = a .access .width; value = value })
+stored c = rw (← c .before .before .register-value .ensures, ← c .before .store-value .ensures) (c .write-filtered-mmio .ensures)
 
 enum-told : tie.Need-enum-told
 enum-told c = search needs
@@ -43,9 +55,7 @@ returns-2 c =
     rw (
       c .advance-guest-pc .ensures,
       c .before .before .before .before .before .before .enum-told2 .given .1,
-      ← c .before .before .before .before .before .register-value .ensures,
-      ← c .before .before .before .before .store-value .ensures,
-      ← c .before .before .before .write-filtered-mmio .ensures,
+      ← stored (c .before .before .before),
       c .before .enum-told3 .given .1,
     )
 
@@ -55,9 +65,7 @@ returns-3 c =
     rw (
       c .unhandled2 .ensures,
       c .before .before .before .before .before .before .enum-told2 .given .1,
-      ← c .before .before .before .before .before .register-value .ensures,
-      ← c .before .before .before .before .store-value .ensures,
-      ← c .before .before .before .write-filtered-mmio .ensures,
+      ← stored (c .before .before .before),
       c .before .enum-told4 .given .1,
     )
 
