@@ -28,7 +28,7 @@ use Rattle.stage2_range.specs.declared.RegionFound.{RegionFound}
 use Rattle.stage2_range.specs.declared.RegionFound.the-variants.{Nothing, Match}
 use Rattle.stage2_range.specs.Registry.{findRegion}
 use Rattle.exceptions.specs.declared.Core.{Core}
-use Rattle.exceptions.specs.Registers.{writeGpr}
+use Rattle.exceptions.specs.Registers.{advancePc, writeGpr}
 use Rattle.qemu.specs.FilteredMmio.{is64, loadsCounter, readFilteredMmio, writeFilteredMmio}
 use Rattle.qemu.proofs.Laws.{counter-loaded, counter-kept}
 use Rattle.data_abort.specs.declared.AbortAnswer.the-variants.{Handled}
@@ -37,7 +37,7 @@ use Rattle.data_abort.specs.declared.AccessOutcome.{AccessOutcome}
 use Rattle.data_abort.specs.declared.AccessOutcome.the-variants as outcome
 use Rattle.data_abort.specs.declared.Accessed.{Accessed}
 use Rattle.data_abort.specs.declared.TrapRegisters.{TrapRegisters}
-use Rattle.data_abort.specs.DataAbort.{iss, advanced, readDone, writeDone, readThrough, writeThrough, accessIn, accessFound, accessDecoded, tryMemoryAccess, injectDataAbort, abortDone, handleDataAbort}
+use Rattle.data_abort.specs.DataAbort.{iss, readDone, writeDone, readThrough, writeThrough, accessIn, accessFound, accessDecoded, tryMemoryAccess, injectDataAbort, abortDone, handleDataAbort}
 use Rattle.data_abort.specs.CounterLoad.{CounterLoad}
 
 -- the access to the filtered MMIO page at an offset
@@ -50,7 +50,7 @@ pub counter-answered : (regions : List MemoryAccessRegion) (core : Core) (counte
     handleDataAbort regions core counter trap
     ≡ record {
       answer = Handled Read;
-      core = advanced (writeGpr core (access .«register_index») (extendReadResult access counter) .core);
+      core = advancePc (writeGpr core (access .«register_index») (extendReadResult access counter) .core);
       counter = (counter + 1) % 2 ^ 64;
     }
 unfolding handleDataAbort tryMemoryAccess decodeAccess accessIn readThrough loadsCounter

@@ -29,6 +29,7 @@ use Rattle.stage2_range.specs.declared.RegionFound.the-variants.{Nothing, Match
 use Rattle.stage2_range.specs.Registry.{findRegion}
 use Rattle.exceptions.specs.declared.Core.{Core}
 use Rattle.exceptions.specs.declared.Wait.{Wait}
+use Rattle.exceptions.specs.Registers.{advancePc}
 use Rattle.exceptions.proofs.Laws.{write-wait}
 use Rattle.qemu.specs.FilteredMmio.{readFilteredMmio, writeFilteredMmio}
 use Rattle.data_abort.specs.declared.AbortAnswer.the-variants.{Injected, NoGuestVector}
@@ -37,7 +38,7 @@ use Rattle.data_abort.specs.declared.AccessOutcome.{AccessOutcome}
 use Rattle.data_abort.specs.declared.AccessOutcome.the-variants.{Handled, Unhandled}
 use Rattle.data_abort.specs.declared.Accessed.{Accessed}
 use Rattle.data_abort.specs.declared.TrapRegisters.{TrapRegisters}
-use Rattle.data_abort.specs.DataAbort.{iss, advanced, readDone, writeDone, readThrough, writeThrough, accessIn, accessFound, accessDecoded, tryMemoryAccess, injected, injectDataAbort, abortDone, handleDataAbort, withEc, isUnhandled, injectionDue, abortNumber}
+use Rattle.data_abort.specs.DataAbort.{iss, readDone, writeDone, readThrough, writeThrough, accessIn, accessFound, accessDecoded, tryMemoryAccess, injected, injectDataAbort, abortDone, handleDataAbort, withEc, isUnhandled, injectionDue, abortNumber}
 
 -- a mask clears bits 31:26
 ec-cleared : (e : ℕ) → e < 2 ^ 64 → bitAnd e (2 ^ 64 - 1 - 0x3F * 2 ^ 26) ≡ e / 2 ^ 32 * 2 ^ 32 + e % 2 ^ 26
@@ -104,12 +105,12 @@ module _ (regions : List MemoryAccessRegion) (core : Core) (counter : ℕ) (trap
 -- A data abort leaves what the core waits for.
 read-wait : (result : MemoryReadResult) (after : ℕ) (access : MemoryAccess) (core : Core) (counter : ℕ)
     → readDone result after access core counter .core .wait ≡ core .wait
-unfolding advanced
+unfolding advancePc
 read-wait (read.Value value) after access core counter = write-wait core (access .«register_index») (extendReadResult access value)
 read-wait read.Fault after access core counter = refl
 
 written-wait : (result : MemoryWriteResult) (core : Core) (counter : ℕ) → writeDone result core counter .core .wait ≡ core .wait
-unfolding advanced
+unfolding advancePc
 written-wait write.Handled core counter = refl
 written-wait write.Fault core counter = refl
 

@@ -22,7 +22,7 @@ use Rattle.stage2_range.specs.declared.RegionFound.{RegionFound}
 use Rattle.stage2_range.specs.declared.RegionFound.the-variants.{Nothing, Match}
 use Rattle.stage2_range.specs.Registry.{findRegion}
 use Rattle.exceptions.specs.declared.Core.{Core}
-use Rattle.exceptions.specs.Registers.{readGpr, readValue, writeGpr}
+use Rattle.exceptions.specs.Registers.{advancePc, readGpr, readValue, writeGpr}
 use Rattle.qemu.specs.FilteredMmio.{readFilteredMmio, writeFilteredMmio}
 use Rattle.data_abort.specs.declared.AbortAnswer.{AbortAnswer}
 use Rattle.data_abort.specs.declared.AbortAnswer.the-variants as abort
@@ -36,16 +36,6 @@ use Rattle.data_abort.specs.declared.TrapRegisters.{TrapRegisters}
 abbrev pub iss : ℕ → ℕ
 iss esr = lowBits 25 esr
 
--- "ELR grows by 4 modulo 2^64"
-unfoldable pub advanced : Core → Core
-advanced core = record {
-  x = core .x;
-  elr = (core .elr + 4) % 2 ^ 64;
-  spsr = core .spsr;
-  el1 = core .el1;
-  wait = core .wait;
-}
-
 -- an access that nothing handles changes nothing
 abbrev pub unhandled : Core → ℕ → Accessed
 unhandled core counter = record { outcome = Unhandled; core = core; counter = counter }
@@ -54,14 +44,14 @@ unhandled core counter = record { outcome = Unhandled; core = core; counter = co
 abbrev pub readDone : MemoryReadResult → ℕ → MemoryAccess → Core → ℕ → Accessed
 readDone (read.Value value) after access core counter = record {
   outcome = Handled Read;
-  core = advanced (writeGpr core (access .«register_index») (extendReadResult access value) .core);
+  core = advancePc (writeGpr core (access .«register_index») (extendReadResult access value) .core);
   counter = after;
 }
 readDone read.Fault after access core counter = unhandled core counter
 
 -- a store, by what came of it
 abbrev pub writeDone : MemoryWriteResult → Core → ℕ → Accessed
-writeDone write.Handled core counter = record { outcome = Handled Write; core = advanced core; counter = counter }
+writeDone write.Handled core counter = record { outcome = Handled Write; core = advancePc core; counter = counter }
 writeDone write.Fault core counter = unhandled core counter
 
 -- a load through a region's read handler (document 01: its read half)

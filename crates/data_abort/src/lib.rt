@@ -2,7 +2,7 @@
 ghost use mathlib.Core.Path.{_≡_};
 ghost use Rattle.lists.specs.Lists.{held};
 ghost use Rattle.exceptions.specs.Registers.{readGpr, readValue};
-ghost use Rattle.data_abort.specs.DataAbort.{abortNumber, advanced, unhandled, readThrough, writeThrough, accessIn, tryMemoryAccess, withEc, injectDataAbort, handleDataAbort};
+ghost use Rattle.data_abort.specs.DataAbort.{abortNumber, unhandled, readThrough, writeThrough, accessIn, tryMemoryAccess, withEc, injectDataAbort, handleDataAbort};
 use exceptions::Core;
 use exceptions::FaultRegisters;
 use exceptions::GprRead;
@@ -175,7 +175,7 @@ fn read_through(
                     let next = written.core;
                     Accessed {
                         outcome: AccessOutcome::Handled(MemoryAccessKind::Read),
-                        core: advance_guest_pc(next),
+                        core: next.advance_pc(),
                         counter: read.counter,
                     }
                 }
@@ -209,7 +209,7 @@ fn write_through(
             match qemu::write_filtered_mmio(write) {
                 MemoryWriteResult::Handled => Accessed {
                     outcome: AccessOutcome::Handled(MemoryAccessKind::Write),
-                    core: advance_guest_pc(core),
+                    core: core.advance_pc(),
                     counter,
                 },
                 MemoryWriteResult::Fault => unhandled(core, counter),
@@ -226,17 +226,6 @@ fn register_value(core: Core, index: usize) -> u64
         GprRead::Value(value) => value,
         GprRead::NoSuchRegister => 0,
     }
-}
-
-const AARCH64_INSTRUCTION_LENGTH: u64 = 4;
-
-// The core past the instruction that trapped.
-pub fn advance_guest_pc(core: Core) -> Core
-    ensures { λ r. ⌜ r ≡ advanced core ⌝ }
-{
-    let mut next = core;
-    next.elr = std::num::wrapping_add_u64(core.elr, AARCH64_INSTRUCTION_LENGTH);
-    next
 }
 
 // The vector "Current EL with SPx, Synchronous" stands this far above VBAR_EL1 (Arm DDI 0487).

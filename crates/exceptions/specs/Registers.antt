@@ -1,7 +1,7 @@
 -- A core's saved registers (document 01, "Core"). Assumes nothing.
 use mathlib.Core.Bool.{cond}
 use mathlib.Core.List.{List}
-use Prim.Native.Nat.{ℕ}
+use Prim.Native.Nat.{ℕ, _+_, _%_, _^_}
 use lib.Dec.{eqb, ltb}
 use lib.ListN.{getD, set, replicate}
 use Rattle.exceptions.specs.declared.Wait.the-variants.{Nothing}
@@ -20,6 +20,16 @@ freshCore = record {
   spsr = 0;
   el1 = record { elr = 0; spsr = 0; far = 0; esr = 0 };
   wait = Nothing;
+}
+
+-- "ELR grows by 4 modulo 2^64"
+unfoldable pub advancePc : Core → Core
+advancePc core = record {
+  x = core .x;
+  elr = (core .elr + 4) % 2 ^ 64;
+  spsr = core .spsr;
+  el1 = core .el1;
+  wait = core .wait;
 }
 
 -- the core with other registers x0 to x30

@@ -1,6 +1,6 @@
 // RITM's src/exceptions.rs: the guest registers that a trap saved, as one record by value.
 ghost use mathlib.Core.Path.{_≡_};
-ghost use Rattle.exceptions.specs.Registers.{freshCore, readGpr, readNumber, writeGpr, writeNumber};
+ghost use Rattle.exceptions.specs.Registers.{freshCore, advancePc, readGpr, readNumber, writeGpr, writeNumber};
 
 // How a call left the guest: the SMCCC's conduit.
 pub enum Conduit {
@@ -79,6 +79,8 @@ impl GprWrite {
     }
 }
 
+const AARCH64_INSTRUCTION_LENGTH: u64 = 4;
+
 impl Core {
     // The fresh core: all zero, waiting for nothing.
     pub fn fresh() -> Self
@@ -97,6 +99,15 @@ impl Core {
             el1,
             wait: Wait::Nothing,
         }
+    }
+
+    // The core past the instruction that trapped. (RITM's `advance_pc`, by the length of an instruction.)
+    pub fn advance_pc(self) -> Self
+        ensures { λ r. ⌜ r ≡ advancePc self ⌝ }
+    {
+        let mut core = self;
+        core.elr = std::num::wrapping_add_u64(self.elr, AARCH64_INSTRUCTION_LENGTH);
+        core
     }
 
     // The value of guest register `index`.

@@ -14,30 +14,25 @@ use Rattle.simple_map.specs.declared.Inserted.{Inserted}
 use Rattle.simple_map.specs.declared.SimpleMap.{SimpleMap}
 use Rattle.simple_map.specs.declared.SuspendCoreData.{SuspendCoreData}
 use Rattle.simple_map.specs.Map.{hasRoom, insertItem, insertNumber}
+use Rattle.forwarded_call.specs.declared.HvcReply.{HvcReply}
+use Rattle.forwarded_call.specs.ForwardedCall.{waits, replyCore}
+use Rattle.forwarded_call.proofs.Laws.{reply-done}
 use Rattle.exceptions.specs.declared.Core.{Core}
 use Rattle.exceptions.specs.declared.GprWritten.{GprWritten}
-use Rattle.exceptions.specs.declared.Conduit.{Conduit}
-use Rattle.exceptions.specs.declared.Wait.{Wait}
-use Rattle.exceptions.specs.declared.Wait.the-variants.{Nothing, Call}
 use Rattle.exceptions.specs.Registers.{writeGpr, writeNumber}
-use Rattle.hvc_response.specs.declared.HvcResultKind.{HvcResultKind}
-use Rattle.hvc_response.specs.declared.HvcResultKind.the-variants.{Result, UnknownKind}
-use Rattle.hvc_response.specs.Response.{resultOfKind}
 use Rattle.data_abort.specs.declared.TrapRegisters.{TrapRegisters}
 use Rattle.data_abort.specs.DataAbort.{handleDataAbort}
 use Rattle.data_abort.proofs.Laws.{abort-refused}
-use Rattle.hypervisor.specs.declared.CoreError.the-variants.{UnknownReplyKind}
 use Rattle.hypervisor.specs.declared.CoreStep.{CoreStep}
 use Rattle.hypervisor.specs.declared.CoresStep.{CoresStep}
-use Rattle.hypervisor.specs.declared.HvcReply.{HvcReply}
 use Rattle.hypervisor.specs.declared.TrapStep.{TrapStep}
 use Rattle.hypervisor.specs.declared.Trapped.{Trapped}
-use Rattle.hypervisor.specs.Answers.{coreNumber, trapNumber, answered, refused, refusedCore}
-use Rattle.hypervisor.specs.Trap.{ec, exceptionClass, forwardCall, byClass, waits, handleSyncLower}
-use Rattle.hypervisor.specs.Cores.{noCore, saveCore, mayReply, replied, completeCall, replyTo, replyCore, onCore, saveOn, replyOn, trapOn}
+use Rattle.hypervisor.specs.Answers.{coreNumber, trapNumber, answered, refused}
+use Rattle.hypervisor.specs.Trap.{ec, exceptionClass, byClass, handleSyncLower}
+use Rattle.hypervisor.specs.Cores.{noCore, saveCore, replyStep, onCore, saveOn, replyOn, trapOn}
 use Rattle.hypervisor.specs.Calls.{State, HostCall, build, save, trap, reply, write-gpr, insert, get, remove, answerNumber, withPolicy, withCores, withMap, call}
 use Rattle.hypervisor.proofs.Laws.{by-class}
-use Rattle.hypervisor.proofs.Refusals.{abort-answer-number}
+use Rattle.hypervisor.proofs.Refusals.{abort-answer-number, reply-answer-number}
 
 -- One core's calls that are refused leave the core as it was.
 abbrev CoreKept : Core → CoreStep → Type 0
@@ -47,32 +42,16 @@ save-kept : (core : Core) (x : List ℕ) (elr spsr : ℕ) → CoreKept core (sav
 unfolding saveCore
 save-kept core x elr spsr = cond-all (CoreKept core) (waits (core .wait)) _ _ (λ h. refl) (λ h. absurd (h refl))
 
-replied-kept : (core : Core) (result : HvcResultKind) (conduit : Conduit) (values : List ℕ)
-    → CoreKept core (replied result conduit core values)
-replied-kept core (Result result) conduit values h = absurd (h refl)
-replied-kept core UnknownKind conduit values h = refl
-
-complete-kept : (core : Core) (conduit : Conduit) (result : HvcReply) → CoreKept core (completeCall conduit core result)
-unfolding completeCall
-complete-kept core conduit result = replied-kept core (resultOfKind (result .kind) (getD (result .values) 0 0) (result .error)) conduit (result .values)
-
-reply-to-kept : (core : Core) (wait : Wait) (result : HvcReply) → CoreKept core (replyTo wait core result)
-reply-to-kept core Nothing result = λ h. refl
-reply-to-kept core (Call conduit recipient) result =
-    cond-all (CoreKept core) (mayReply recipient (result .kind)) (completeCall conduit core result) (refusedCore UnknownReplyKind core)
-    (complete-kept core conduit result)
-    (λ h. refl)
-
-reply-kept : (core : Core) (result : HvcReply) → CoreKept core (replyCore core result)
-unfolding replyCore
-reply-kept core result = reply-to-kept core (core .wait) result
+reply-kept : (core : Core) (result : HvcReply) → CoreKept core (replyStep (replyCore core result))
+reply-kept core result h =
+    reply-done core result .refused-keeps (λ z. h (reply-answer-number (replyCore core result .answer) ∙ z))
 
 abbrev TrapKept : Core → ℕ → TrapStep → Type 0
 TrapKept core counter s = (trapNumber (s .answer) ≡ 0 → ⊥) → (s .core ≡ core) × (s .counter ≡ counter)
 
 step-kept : (regions : List MemoryAccessRegion) (core : Core) (counter : ℕ) (registers : TrapRegisters)
     → TrapKept core counter (handleSyncLower regions core counter registers)
-unfolding handleSyncLower exceptionClass byClass forwardCall answered
+unfolding handleSyncLower exceptionClass byClass answered
 step-kept regions core counter registers =
     cond-all (TrapKept core counter) (waits (core .wait)) _ _ (λ h. (refl, refl))
     (by-class (λ c. TrapKept core counter (byClass c regions core counter registers)) (ec (registers .esr))

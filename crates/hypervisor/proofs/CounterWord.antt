@@ -19,9 +19,10 @@ use Rattle.stage2.specs.Policy.{regionsHeld}
 use Rattle.stage2.specs.Builds.{WellFormed}
 use Rattle.stage2.proofs.WellFormed.{find-exact}
 use Rattle.exceptions.specs.declared.Core.{Core}
-use Rattle.exceptions.specs.Registers.{writeGpr}
+use Rattle.exceptions.specs.Registers.{advancePc, writeGpr}
+use Rattle.forwarded_call.specs.ForwardedCall.{waits}
 use Rattle.data_abort.specs.declared.TrapRegisters.{TrapRegisters}
-use Rattle.data_abort.specs.DataAbort.{iss, advanced}
+use Rattle.data_abort.specs.DataAbort.{iss}
 use Rattle.data_abort.specs.CounterLoad.{CounterLoad}
 use Rattle.data_abort.proofs.CounterLoad.{counter-answered, counter-unused}
 use Rattle.hypervisor.specs.declared.CoreError.the-variants.{CoreWaiting}
@@ -29,7 +30,7 @@ use Rattle.hypervisor.specs.declared.TrapAnswer.the-variants.{AccessHand
 use Rattle.hypervisor.specs.declared.TrapStep.{TrapStep}
 use Rattle.hypervisor.specs.declared.Trapped.{Trapped}
 use Rattle.hypervisor.specs.Answers.{trapNumber, noValues, answered, refused}
-use Rattle.hypervisor.specs.Trap.{ec, classOf, exceptionClass, forwardCall, byClass, waits, handleSyncLower}
+use Rattle.hypervisor.specs.Trap.{ec, classOf, exceptionClass, byClass, handleSyncLower}
 use Rattle.hypervisor.specs.Cores.{noCore, trapOn, trapCases}
 use Rattle.hypervisor.specs.CounterWord.{LoadsCounterWord}
 use Rattle.hypervisor.proofs.Laws.{by-class}
@@ -39,7 +40,7 @@ use Rattle.hypervisor.proofs.Refusals.{trap-number}
 abbrev pub counterRead : Core → ℕ → TrapRegisters → Core
 counterRead core counter trap =
     let access = accessOf (iss (trap .esr)) (trap .fipa) (trap .far) in
-    advanced (writeGpr core (access .«register_index») (extendReadResult access counter) .core)
+    advancePc (writeGpr core (access .«register_index») (extendReadResult access counter) .core)
 
 -- One core's trap, on any regions: idle, with EC 0x24 and a load of the counter word.
 pub record StepLoads (regions : List MemoryAccessRegion) (core : Core) (trap : TrapRegisters) : Type 0 where
@@ -60,7 +61,7 @@ module _ (regions : List MemoryAccessRegion) (core : Core) (trap : TrapRegisters
 
   class-steady : (class : ℕ) → (class ≡ 0x24 → CounterLoad regions trap → ⊥)
       → Steady (λ counter. byClass (classOf class) regions core counter trap)
-  unfolding byClass forwardCall answered
+  unfolding byClass answered
   class-steady class none =
       by-class (λ c. Steady (λ counter. byClass c regions core counter trap)) class
       (λ e counter counter′. refl)

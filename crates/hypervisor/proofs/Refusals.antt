@@ -1,12 +1,9 @@
 -- Each call on a core answers the number of the first case that it meets. Assumes nothing.
-use Prim.Native.Nat.{ℕ, zero, suc}
+use Prim.Native.Nat.{ℕ}
 use mathlib.Core.Path.{_≡_, refl, _∙_, ap}
-use mathlib.Core.Bool.{Bool, true, false, not, cond, _&&_, _||_}
+use mathlib.Core.Bool.{Bool, not, cond, _&&_, _||_}
 use mathlib.Core.List.{List}
-use native.Mathlib.Omega.{arith}
-use borrow.Author.Tests.{lt-ltb}
 use lib.Dec.{eqb, ltb}
-use lib.IntN.{ℤ}
 use lib.ListN.{getD}
 use Rattle.lists.specs.Refusals.{case, firstMet}
 use Rattle.lists.proofs.Laws.{cond-map}
@@ -18,20 +15,19 @@ use Rattle.data_abort.specs.declared.AbortAnswer.the-variants as abort
 use Rattle.data_abort.specs.declared.TrapRegisters.{TrapRegisters}
 use Rattle.data_abort.specs.DataAbort.{abortNumber, injectionDue, handleDataAbort}
 use Rattle.data_abort.proofs.Laws.{abort-number}
+use Rattle.forwarded_call.specs.declared.HvcReply.{HvcReply}
+use Rattle.forwarded_call.specs.declared.ReplyAnswer.{ReplyAnswer}
+use Rattle.forwarded_call.specs.declared.ReplyAnswer.the-variants as reply
+use Rattle.forwarded_call.specs.ForwardedCall.{waits, replyNumber, replyCore}
+use Rattle.forwarded_call.proofs.Laws.{reply-core-number}
 use Rattle.exceptions.specs.declared.Core.{Core}
-use Rattle.exceptions.specs.declared.Conduit.{Conduit}
-use Rattle.exceptions.specs.declared.Recipient.the-variants.{Firmware, Platform}
-use Rattle.exceptions.specs.declared.Wait.{Wait}
-use Rattle.exceptions.specs.declared.Wait.the-variants.{Nothing, Call}
-use Rattle.hvc_response.specs.Response.{resultOfKind}
 use Rattle.hypervisor.specs.declared.CoreStep.{CoreStep}
 use Rattle.hypervisor.specs.declared.CoresStep.{CoresStep}
-use Rattle.hypervisor.specs.declared.HvcReply.{HvcReply}
 use Rattle.hypervisor.specs.declared.TrapStep.{TrapStep}
 use Rattle.hypervisor.specs.declared.Trapped.{Trapped}
-use Rattle.hypervisor.specs.Answers.{coreNumber, trapNumber, abortAnswer, answered}
-use Rattle.hypervisor.specs.Trap.{ec, classOf, exceptionClass, forwardCall, byClass, waits, handleSyncLower}
-use Rattle.hypervisor.specs.Cores.{noCore, saveCore, mayReply, replied, completeCall, replyTo, replyCore, onCore, saveOn, replyOn, trapOn, saveCases, waitsForFirmware, replyCases, trapCases}
+use Rattle.hypervisor.specs.Answers.{coreNumber, trapNumber, abortAnswer, replyAnswer, answered}
+use Rattle.hypervisor.specs.Trap.{ec, classOf, exceptionClass, byClass, handleSyncLower}
+use Rattle.hypervisor.specs.Cores.{noCore, saveCore, onCore, saveOn, replyOn, trapOn, saveCases, replyCases, trapCases}
 use Rattle.hypervisor.proofs.Laws.{by-class}
 
 -- 10 comes first, then what the core's own step meets
@@ -48,47 +44,20 @@ save-number cores i x elr spsr =
     on-core-number cores i _
     ∙ ap (cond (ltb 7 i) 10) (cond-map (λ (s : CoreStep). coreNumber (s .answer)) (waits (getD cores i noCore .wait)) _ _)
 
--- a call is completed unless its reply's kind is above 4
-complete-number : (conduit : Conduit) (core : Core) (reply : HvcReply)
-    → coreNumber (completeCall conduit core reply .answer) ≡ cond (ltb 4 (reply .kind)) 15 0
-unfolding completeCall resultOfKind
-complete-number conduit core reply = go (reply .kind) (getD (reply .values) 0 0) (reply .error)
-  where
-    go : (kind value : ℕ) (error : ℤ)
-        → coreNumber (replied (resultOfKind kind value error) conduit core (reply .values) .answer) ≡ cond (ltb 4 kind) 15 0
-    go zero value error = refl
-    go (suc zero) value error = refl
-    go (suc (suc zero)) value error = refl
-    go (suc (suc (suc zero))) value error = refl
-    go (suc (suc (suc (suc zero)))) value error = refl
-    go (suc (suc (suc (suc (suc n))))) value error = rw (lt-ltb 4 (suc (suc (suc (suc (suc n))))) (omega arith))
-
--- 15 where the kind is not the recipient's, or above 4
-either-refuses : (may above : Bool) → _≡_ {A = ℕ} (cond may (cond above 15 0) 15) (cond (above || not may) 15 0)
-either-refuses true true = refl
-either-refuses true false = refl
-either-refuses false true = refl
-either-refuses false false = refl
-
-reply-to-number : (wait : Wait) (core : Core) (reply : HvcReply)
-    → coreNumber (replyTo wait core reply .answer)
-    ≡ cond (not (waits wait)) 14
-    (cond (ltb 4 (reply .kind) || (waitsForFirmware wait && not (eqb (reply .kind) 1 || eqb (reply .kind) 4))) 15 0)
-unfolding mayReply
-reply-to-number Nothing core reply = refl
-reply-to-number (Call conduit Firmware) core reply =
-    let may = eqb (reply .kind) 1 || eqb (reply .kind) 4 in
-    cond-map (λ (s : CoreStep). coreNumber (s .answer)) may _ _
-    ∙ ap (λ (n : ℕ). cond may n 15) (complete-number conduit core reply)
-    ∙ either-refuses may (ltb 4 (reply .kind))
-reply-to-number (Call conduit Platform) core reply = complete-number conduit core reply ∙ either-refuses true (ltb 4 (reply .kind))
+-- a reply's number is that of its answer among those of a core
+pub reply-answer-number : (a : ReplyAnswer) → coreNumber (replyAnswer a) ≡ replyNumber a
+reply-answer-number reply.Accepted = refl
+reply-answer-number reply.NothingWaiting = refl
+reply-answer-number reply.UnknownReplyKind = refl
 
 -- "reply 10, 14, 15"
 pub reply-number : (cores : List Core) (i : ℕ) (reply : HvcReply)
     → coreNumber (replyOn cores i reply .answer) ≡ firstMet (replyCases cores i (reply .kind))
-unfolding replyOn replyCore
+unfolding replyOn
 reply-number cores i reply =
-    on-core-number cores i _ ∙ ap (cond (ltb 7 i) 10) (reply-to-number (getD cores i noCore .wait) (getD cores i noCore) reply)
+    let core = getD cores i noCore in
+    on-core-number cores i _
+    ∙ ap (cond (ltb 7 i) 10) (reply-answer-number (replyCore core reply .answer) ∙ reply-core-number core reply)
 
 -- a data abort's number is that of its answer among a trap's
 pub abort-answer-number : (a : AbortAnswer) → trapNumber (abortAnswer a) ≡ abortNumber a
@@ -104,7 +73,7 @@ module _ (regions : List MemoryAccessRegion) (core : Core) (counter : ℕ) (trap
   class-number : (class : ℕ)
       → trapNumber (byClass (classOf class) regions core counter trap .answer)
       ≡ cond (not (eqb class 0x16 || eqb class 0x17 || eqb class 0x24)) 12 (cond (eqb class 0x24 && refusesAbort) 13 0)
-  unfolding byClass forwardCall answered
+  unfolding byClass answered
   class-number class =
       by-class
       (λ c. trapNumber (byClass c regions core counter trap .answer)

@@ -11,31 +11,28 @@ use lib.Seq.{getD-set-same, getD-set-other}
 use Rattle.lists.proofs.Laws.{cond-all}
 use Rattle.stage2.specs.Policy.{regionsHeld}
 use Rattle.stage2_range.specs.declared.MemoryAccessRegion.{MemoryAccessRegion}
+use Rattle.forwarded_call.specs.declared.HvcReply.{HvcReply}
+use Rattle.forwarded_call.specs.ForwardedCall.{withWait, forwardCall, waits, replyCore}
+use Rattle.forwarded_call.proofs.Laws.{reply-done}
 use Rattle.exceptions.specs.declared.Core.{Core}
-use Rattle.exceptions.specs.declared.Conduit.{Conduit}
-use Rattle.exceptions.specs.declared.Conduit.the-variants.{Hvc, Smc}
 use Rattle.exceptions.specs.declared.Wait.{Wait}
 use Rattle.exceptions.specs.declared.Wait.the-variants.{Nothing, Call}
 use Rattle.exceptions.specs.Registers.{freshCore, writeGpr}
 use Rattle.exceptions.proofs.Laws.{write-wait}
-use Rattle.hvc_response.specs.declared.HvcResultKind.{HvcResultKind}
-use Rattle.hvc_response.specs.declared.HvcResultKind.the-variants.{Result, UnknownKind}
-use Rattle.hvc_response.specs.Response.{resultOfKind}
 use Rattle.data_abort.specs.declared.AbortAnswer.{AbortAnswer}
 use Rattle.data_abort.specs.declared.AbortAnswer.the-variants as abort
 use Rattle.data_abort.specs.declared.TrapRegisters.{TrapRegisters}
 use Rattle.data_abort.specs.DataAbort.{handleDataAbort}
 use Rattle.data_abort.proofs.Laws.{abort-wait}
-use Rattle.hypervisor.specs.declared.CoreError.the-variants.{UnknownReplyKind}
 use Rattle.hypervisor.specs.declared.CoreStep.{CoreStep}
-use Rattle.hypervisor.specs.declared.HvcReply.{HvcReply}
 use Rattle.hypervisor.specs.declared.TrapStep.{TrapStep}
 use Rattle.hypervisor.specs.declared.Trapped.{Trapped}
-use Rattle.hypervisor.specs.Answers.{abortAnswer, answered, refusedCore}
-use Rattle.hypervisor.specs.Trap.{ec, exceptionClass, withWait, forwardCall, byClass, waits, handleSyncLower}
-use Rattle.hypervisor.specs.Cores.{noCore, freshCores, saveCore, mayReply, resumed, replied, completeCall, replyTo, replyCore, onCore, saveOn, replyOn, trapOn}
-use Rattle.hypervisor.specs.Calls.{State, freshState, HostCall, build, save, trap, reply, write-gpr, insert, get, remove, call, callAll, waitOf, isForwarded, isAccepted, outstandingAfter, outstanding}
+use Rattle.hypervisor.specs.Answers.{coreNumber, abortAnswer, answered}
+use Rattle.hypervisor.specs.Trap.{ec, exceptionClass, byClass, handleSyncLower}
+use Rattle.hypervisor.specs.Cores.{noCore, freshCores, saveCore, replyStep, onCore, saveOn, replyOn, trapOn}
+use Rattle.hypervisor.specs.Calls.{State, freshState, HostCall, build, save, trap, reply, write-gpr, insert, get, remove, call, callAll, waitOf, isForwarded, outstandingAfter, outstanding}
 use Rattle.hypervisor.proofs.Laws.{by-class}
+use Rattle.hypervisor.proofs.Refusals.{reply-answer-number}
 use Rattle.hypervisor.proofs.Steps.{trap-step, trap-others, trap-places, core-step, core-others, core-places}
 
 -- What each step does to the wait of its core.
@@ -64,34 +61,10 @@ trap-waits regions core counter registers =
     (λ hvc smc abort. refl))
 
 -- a reply ends the wait exactly where it is accepted
-abbrev ReplyWaits : Core → CoreStep → Type 0
-ReplyWaits core s = waits (s .core .wait) ≡ cond (isAccepted (s .answer)) false (waits (core .wait))
-
-resumed-idle : (conduit : Conduit) (core : Core) → waits (resumed conduit core .wait) ≡ false
-unfolding resumed withWait
-resumed-idle Hvc core = refl
-resumed-idle Smc core = refl
-
-replied-waits : (result : HvcResultKind) (conduit : Conduit) (core : Core) (values : List ℕ)
-    → ReplyWaits core (replied result conduit core values)
-replied-waits (Result result) conduit core values = resumed-idle conduit _
-replied-waits UnknownKind conduit core values = refl
-
-complete-waits : (conduit : Conduit) (core : Core) (result : HvcReply) → ReplyWaits core (completeCall conduit core result)
-unfolding completeCall
-complete-waits conduit core result =
-    replied-waits (resultOfKind (result .kind) (getD (result .values) 0 0) (result .error)) conduit core (result .values)
-
-reply-to-waits : (wait : Wait) (core : Core) (result : HvcReply) → ReplyWaits core (replyTo wait core result)
-reply-to-waits Nothing core result = refl
-reply-to-waits (Call conduit recipient) core result =
-    cond-all (ReplyWaits core) (mayReply recipient (result .kind)) (completeCall conduit core result) (refusedCore UnknownReplyKind core)
-    (complete-waits conduit core result)
-    refl
-
-reply-waits : (core : Core) (result : HvcReply) → ReplyWaits core (replyCore core result)
-unfolding replyCore
-reply-waits core result = reply-to-waits (core .wait) core result
+reply-waits : (core : Core) (result : HvcReply) →
+    let r = replyStep (replyCore core result) in
+    waits (r .core .wait) ≡ cond (eqb (coreNumber (r .answer)) 0) false (waits (core .wait))
+reply-waits core result = rw (reply-answer-number (replyCore core result .answer)) (reply-done core result .wait-ends)
 
 -- One call, seen from core `i`: its own steps do this to its wait, and all others leave it.
 module _ (s : State) (i : ℕ) (within : i ≤ 7) (places : length (s .cores) ≡ 8) where
@@ -120,10 +93,10 @@ module _ (s : State) (i : ℕ) (within : i ≤ 7) (places : length (s .cores) �
       → waits (waitOf (call s (reply j result) .state) i) ≡ outstandingAfter s i (waits (waitOf s i)) (reply j result)
   unfolding replyOn
   reply-after result =
-      let step : Core → CoreStep = λ core. replyCore core result in
+      let step : Core → CoreStep = λ core. replyStep (replyCore core result) in
       let own = core-step (s .cores) i step within places in
       by-core (λ j. onCore (s .cores) j step .cores)
-      (λ b j. cond (b && isAccepted (onCore (s .cores) j step .answer)) false (waits (waitOf s i)))
+      (λ b j. cond (b && eqb (coreNumber (onCore (s .cores) j step .answer)) 0) false (waits (waitOf s i)))
       (rw (ap (λ (x : CoreStep). x .core) own, ap (λ (x : CoreStep). x .answer) own) (reply-waits (getD (s .cores) i noCore) result))
       (λ j h. ap (λ (c : Core). waits (c .wait)) (core-others (s .cores) j step i h))
 

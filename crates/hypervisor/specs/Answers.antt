@@ -5,6 +5,9 @@ use lib.ListN.{replicate}
 use Rattle.memory_access.specs.declared.MemoryAccessKind.the-variants.{Read, Write}
 use Rattle.data_abort.specs.declared.AbortAnswer.{AbortAnswer}
 use Rattle.data_abort.specs.declared.AbortAnswer.the-variants as abort
+use Rattle.forwarded_call.specs.declared.ForwardedCall.{ForwardedCall}
+use Rattle.forwarded_call.specs.declared.ReplyAnswer.{ReplyAnswer}
+use Rattle.forwarded_call.specs.declared.ReplyAnswer.the-variants as reply
 use Rattle.exceptions.specs.declared.Core.{Core}
 use Rattle.exceptions.specs.declared.Recipient.the-variants.{Firmware, Platform}
 use Rattle.hypervisor.specs.declared.CoreError.{CoreError}
@@ -52,6 +55,12 @@ abortAnswer (abort.Handled kind) = AccessHandled kind
 abortAnswer abort.Injected = AbortInjected
 abortAnswer abort.NoGuestVector = Refused NoGuestVector
 
+-- a reply's answer among those of a core
+abbrev pub replyAnswer : ReplyAnswer → CoreAnswer
+replyAnswer reply.Accepted = core-answer.Accepted
+replyAnswer reply.NothingWaiting = core-answer.Refused NothingWaiting
+replyAnswer reply.UnknownReplyKind = core-answer.Refused UnknownReplyKind
+
 -- "every other result field 0": the values of an answer that has none
 abbrev pub noValues : List ℕ
 noValues = replicate 18 0
@@ -64,6 +73,10 @@ answered answer core counter = record { answer = answer; values = noValues; core
 abbrev pub refused : CoreError → Core → ℕ → TrapStep
 refused error core counter = answered (Refused error) core counter
 
--- the same of a save or a reply
+-- a forwarded call, as a trap's step: its registers are the values
+abbrev pub forwarded : ForwardedCall → ℕ → TrapStep
+forwarded call counter = record { answer = Forwarded (call .recipient); values = call .values; core = call .core; counter = counter }
+
+-- a refusal of a save or a reply
 abbrev pub refusedCore : CoreError → Core → CoreStep
 refusedCore error core = record { answer = core-answer.Refused error; core = core }

@@ -19,13 +19,11 @@ use Rattle.exceptions.specs.declared.GprWrite.{GprWrite}
 use Rattle.exceptions.specs.declared.Wait.{Wait}
 use Rattle.exceptions.specs.Registers.{writeGpr, writeNumber}
 use Rattle.data_abort.specs.declared.TrapRegisters.{TrapRegisters}
+use Rattle.forwarded_call.specs.declared.HvcReply.{HvcReply}
 use Rattle.hypervisor.specs.declared.CoreAnswer.{CoreAnswer}
-use Rattle.hypervisor.specs.declared.CoreAnswer.the-variants as core-answer
-use Rattle.hypervisor.specs.declared.HvcReply.{HvcReply}
 use Rattle.hypervisor.specs.declared.TrapAnswer.{TrapAnswer}
 use Rattle.hypervisor.specs.declared.TrapAnswer.the-variants as trap-answer
 use Rattle.hypervisor.specs.Answers.{coreNumber, trapNumber}
-use Rattle.hypervisor.specs.Trap.{waits}
 use Rattle.hypervisor.specs.Cores.{noCore, freshCores, saveOn, replyOn, trapOn}
 
 -- the state that calls are given and hand back
@@ -126,16 +124,11 @@ isForwarded trap-answer.AbortInjected = false
 isForwarded (trap-answer.Forwarded recipient) = true
 isForwarded (trap-answer.Refused error) = false
 
--- a save or a reply was accepted
-abbrev pub isAccepted : CoreAnswer → Bool
-isAccepted core-answer.Accepted = true
-isAccepted (core-answer.Refused error) = false
-
 -- whether core `i` is between a forwarded call (document 01: a hand-out) and its reply, after one more call
 abbrev pub outstandingAfter : State → ℕ → Bool → HostCall → Bool
 outstandingAfter s i before (trap core registers) =
     cond (eqb core i && isForwarded (trapOn (s .policy) (s .cores) (s .counter) core registers .answer)) true before
-outstandingAfter s i before (reply core result) = cond (eqb core i && isAccepted (replyOn (s .cores) core result .answer)) false before
+outstandingAfter s i before (reply core result) = cond (eqb core i && eqb (coreNumber (replyOn (s .cores) core result .answer)) 0) false before
 outstandingAfter s i before (build c) = before
 outstandingAfter s i before (save core x elr spsr) = before
 outstandingAfter s i before (write-gpr core index value) = before

@@ -1,35 +1,29 @@
 -- Save, reply and trap, on one core and on one of eight (document 01, "Core", "Reply", "Trap"). Assumes nothing.
 use Prim.Native.Nat.{ℕ}
-use mathlib.Core.Bool.{Bool, true, false, not, cond, _&&_, _||_}
+use mathlib.Core.Bool.{not, cond, _&&_, _||_}
 use mathlib.Core.List.{List, [], _∷_}
 use lib.Dec.{eqb, ltb}
 use lib.ListN.{getD, set, replicate}
 use Rattle.lists.specs.Refusals.{Case, case}
 use Rattle.data_abort.specs.declared.TrapRegisters.{TrapRegisters}
-use Rattle.data_abort.specs.DataAbort.{advanced, injectionDue}
+use Rattle.data_abort.specs.DataAbort.{injectionDue}
+use Rattle.forwarded_call.specs.declared.HvcReply.{HvcReply}
+use Rattle.forwarded_call.specs.declared.Replied.{Replied}
+use Rattle.forwarded_call.specs.ForwardedCall.{waits, waitsForFirmware, replyCore}
 use Rattle.exceptions.specs.declared.Core.{Core}
-use Rattle.exceptions.specs.declared.Conduit.{Conduit}
-use Rattle.exceptions.specs.declared.Conduit.the-variants.{Hvc, Smc}
-use Rattle.exceptions.specs.declared.Recipient.{Recipient}
-use Rattle.exceptions.specs.declared.Recipient.the-variants.{Firmware, Platform}
-use Rattle.exceptions.specs.declared.Wait.{Wait}
-use Rattle.exceptions.specs.declared.Wait.the-variants.{Nothing, Call}
+use Rattle.exceptions.specs.declared.Wait.the-variants.{Nothing}
 use Rattle.exceptions.specs.Registers.{freshCore}
-use Rattle.hvc_response.specs.declared.HvcResultKind.{HvcResultKind}
-use Rattle.hvc_response.specs.declared.HvcResultKind.the-variants.{Result, UnknownKind}
-use Rattle.hvc_response.specs.Response.{response, resultOfKind, withFirst}
 use Rattle.stage2.specs.declared.Policy.{Policy}
 use Rattle.stage2.specs.Policy.{regionsHeld}
 use Rattle.hypervisor.specs.declared.CoreAnswer.the-variants.{Accepted, Refused}
-use Rattle.hypervisor.specs.declared.CoreError.the-variants.{NoSuchCore, CoreWaiting, NothingWaiting, UnknownReplyKind}
+use Rattle.hypervisor.specs.declared.CoreError.the-variants.{NoSuchCore, CoreWaiting}
 use Rattle.hypervisor.specs.declared.CoreStep.{CoreStep}
 use Rattle.hypervisor.specs.declared.CoresStep.{CoresStep}
-use Rattle.hypervisor.specs.declared.HvcReply.{HvcReply}
 use Rattle.hypervisor.specs.declared.TrapAnswer.the-variants as trap-answer
 use Rattle.hypervisor.specs.declared.TrapStep.{TrapStep}
 use Rattle.hypervisor.specs.declared.Trapped.{Trapped}
-use Rattle.hypervisor.specs.Answers.{noValues, refusedCore}
-use Rattle.hypervisor.specs.Trap.{ec, waits, withWait, handleSyncLower}
+use Rattle.hypervisor.specs.Answers.{noValues, refusedCore, replyAnswer}
+use Rattle.hypervisor.specs.Trap.{ec, handleSyncLower}
 
 -- "There are 8 cores", each fresh
 unfoldable pub freshCores : List Core
@@ -40,34 +34,6 @@ unfoldable pub saveCore : Core → List ℕ → ℕ → ℕ → CoreStep
 saveCore core x elr spsr =
     cond (waits (core .wait)) (refusedCore CoreWaiting core)
     (record { answer = Accepted; core = record { x = x; elr = elr; spsr = spsr; el1 = core .el1; wait = core .wait } })
-
--- 15 is met where a kind is "not 1 or 4 for the firmware"
-unfoldable pub mayReply : Recipient → ℕ → Bool
-mayReply Firmware kind = eqb kind 1 || eqb kind 4
-mayReply Platform kind = true
-
--- "for an SMC, whichever reply it was, ELR grows by 4 modulo 2^64, for an HVC it stays"; the wait ends
-unfoldable pub resumed : Conduit → Core → Core
-resumed Hvc core = withWait core Nothing
-resumed Smc core = withWait (advanced core) Nothing
-
--- "The reply writes its registers"; 15: "kind above 4"
-abbrev pub replied : HvcResultKind → Conduit → Core → List ℕ → CoreStep
-replied (Result result) conduit core values = record { answer = Accepted; core = resumed conduit (withFirst core (response result values)) }
-replied UnknownKind conduit core values = refusedCore UnknownReplyKind core
-
--- a reply to a forwarded call, by its kind
-unfoldable pub completeCall : Conduit → Core → HvcReply → CoreStep
-completeCall conduit core reply = replied (resultOfKind (reply .kind) (getD (reply .values) 0 0) (reply .error)) conduit core (reply .values)
-
--- 14: "reply to a core that waits for none"
-abbrev pub replyTo : Wait → Core → HvcReply → CoreStep
-replyTo Nothing core reply = refusedCore NothingWaiting core
-replyTo (Call conduit recipient) core reply =
-    cond (mayReply recipient (reply .kind)) (completeCall conduit core reply) (refusedCore UnknownReplyKind core)
-
-unfoldable pub replyCore : Core → HvcReply → CoreStep
-replyCore core reply = replyTo (core .wait) core reply
 
 -- what a place past the eight reads as: no call gets there
 unfoldable pub noCore : Core
@@ -95,9 +61,13 @@ onCore cores i step = cond (ltb 7 i) (noSuchCore cores) (placed cores i (step (g
 unfoldable pub saveOn : List Core → ℕ → List ℕ → ℕ → ℕ → CoresStep
 saveOn cores i x elr spsr = onCore cores i (λ core. saveCore core x elr spsr)
 
+-- one core's reply, as a step
+abbrev pub replyStep : Replied → CoreStep
+replyStep r = record { answer = replyAnswer (r .answer); core = r .core }
+
 -- `reply`: "reply 10, 14, 15"
 unfoldable pub replyOn : List Core → ℕ → HvcReply → CoresStep
-replyOn cores i reply = onCore cores i (λ core. replyCore core reply)
+replyOn cores i reply = onCore cores i (λ core. replyStep (replyCore core reply))
 
 -- a trap's step, of one of the eight
 abbrev pub trappedBy : TrapStep → Policy → List Core → ℕ → Trapped
@@ -119,12 +89,6 @@ trapOn policy cores counter i trap =
 -- the lines of the table that `save` meets, in its order
 abbrev pub saveCases : List Core → ℕ → List Case
 saveCases cores i = case 10 (ltb 7 i) ∷ case 11 (waits (getD cores i noCore .wait)) ∷ []
-
--- a core waits for the firmware
-abbrev pub waitsForFirmware : Wait → Bool
-waitsForFirmware Nothing = false
-waitsForFirmware (Call conduit Firmware) = true
-waitsForFirmware (Call conduit Platform) = false
 
 -- the lines of the table that `reply` meets, in its order
 abbrev pub replyCases : List Core → ℕ → ℕ → List Case

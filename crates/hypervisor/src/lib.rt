@@ -1,29 +1,23 @@
 // RITM's src/hypervisor.rs: what a guest's trap does to its core, and the host's calls over the eight cores.
 ghost use mathlib.Core.Path.{_≡_};
-ghost use Prim.Native.Nat.{_≤_, _<_};
+ghost use Prim.Native.Nat.{_<_};
 ghost use lib.ListN.{replicate};
 ghost use Rattle.lists.specs.Lists.{held};
-ghost use Rattle.hypervisor.specs.Answers.{errorNumber, coreNumber, trapNumber, trapKind, abortAnswer, answered, refused, refusedCore};
-ghost use Rattle.hypervisor.specs.Trap.{exceptionClass, recipientOf, registersFor, forwardedValues, withWait, forwardCall, byClass, handleSyncLower};
-ghost use Rattle.hypervisor.specs.Cores.{freshCores, saveCore, mayReply, resumed, completeCall, replyCore, noSuchCore, placed, saveOn, replyOn, trapOn};
+ghost use Rattle.hypervisor.specs.Answers.{errorNumber, coreNumber, trapNumber, trapKind, abortAnswer, replyAnswer, answered, refused, forwarded, refusedCore};
+ghost use Rattle.hypervisor.specs.Trap.{exceptionClass, byClass, handleSyncLower};
+ghost use Rattle.hypervisor.specs.Cores.{freshCores, saveCore, noSuchCore, placed, saveOn, replyOn, trapOn};
 use data_abort::AbortAnswer;
 use data_abort::TrapRegisters;
 use exceptions::Conduit;
 use exceptions::Core;
 use exceptions::Recipient;
 use exceptions::Wait;
-use hvc_response::HvcResult;
-use hvc_response::HvcResultKind;
+use forwarded_call::ForwardedCall;
+use forwarded_call::HvcReply;
+use forwarded_call::ReplyAnswer;
 use memory_access::MemoryAccessKind;
 use stage2::Policy;
 use stage2_range::MemoryAccessRegion;
-
-// The host's answer to a forwarded call: its kind, the values that the kind uses from the first on, and the error.
-pub struct HvcReply {
-    pub kind: u64,
-    pub values: [u64; 18],
-    pub error: i32,
-}
 
 // Why a call on a core is refused.
 pub enum CoreError {
@@ -59,7 +53,7 @@ pub struct TrapStep {
     pub counter: u64,
 }
 
-// What one core's save or reply answers, and the core then.
+// What one core's save or reply comes to, and the core then.
 pub struct CoreStep {
     pub answer: CoreAnswer,
     pub core: Core,
@@ -191,8 +185,12 @@ fn dispatch(
     ensures { λ r. ⌜ r ≡ byClass (exceptionClass (trap .esr)) (held 16 «region_count» regions) core counter trap ⌝ }
 {
     match exception_class(trap.esr) {
-        ExceptionClass::HvcTrappedInAArch64 => forward_call(core, counter, Conduit::Hvc),
-        ExceptionClass::SmcTrappedInAArch64 => forward_call(core, counter, Conduit::Smc),
+        ExceptionClass::HvcTrappedInAArch64 => {
+            forwarded(forwarded_call::forward_call(core, Conduit::Hvc), counter)
+        }
+        ExceptionClass::SmcTrappedInAArch64 => {
+            forwarded(forwarded_call::forward_call(core, Conduit::Smc), counter)
+        }
         ExceptionClass::DataAbortLowerEl => {
             let step = data_abort::handle_data_abort(regions, region_count, core, counter, trap);
             let answer = step.answer;
@@ -236,64 +234,17 @@ fn abort_answer(answer: AbortAnswer) -> TrapAnswer
     }
 }
 
-// Hands the call out: the core waits for its recipient's reply.
-fn forward_call(core: Core, counter: u64, conduit: Conduit) -> TrapStep
-    ensures { λ r. ⌜ r ≡ forwardCall core counter conduit ⌝ }
+fn forwarded(call: ForwardedCall, counter: u64) -> TrapStep
+    ensures { λ r. ⌜ r ≡ forwarded call counter ⌝ }
 {
-    let x = core.x;
-    let recipient = recipient_of(x[0]);
+    let recipient = call.recipient;
+    let values = call.values;
+    let core = call.core;
     TrapStep {
         answer: TrapAnswer::Forwarded(recipient),
-        values: first_registers(x, registers_for(recipient)),
-        core: wait_for(core, Wait::Call(conduit, recipient)),
+        values,
+        core,
         counter,
-    }
-}
-
-// The firmware answers PSCI calls, of either register width, and the platform all others.
-fn recipient_of(function_id: u64) -> Recipient
-    ensures { λ r. ⌜ r ≡ recipientOf «function_id» ⌝ }
-{
-    match function_id {
-        0x8400_0000..=0x8400_001F | 0xC400_0000..=0xC400_001F => Recipient::Firmware,
-        _ => Recipient::Platform,
-    }
-}
-
-fn registers_for(recipient: Recipient) -> usize
-    ensures { λ r. ⌜ r ≡ registersFor recipient ⌝ }
-{
-    match recipient {
-        Recipient::Firmware => 4,
-        Recipient::Platform => 18,
-    }
-}
-
-// The first registers, and zeros past them.
-fn first_registers(x: [u64; 31], count: usize) -> [u64; 18]
-    requires { ⌜ count ≤ 18 ⌝ }
-    ensures { λ r. ⌜ r ≡ forwardedValues x count ⌝ }
-{
-    let mut values = no_values();
-    let mut index: usize = 0;
-    while index < count {
-        values[index] = x[index];
-        index += 1;
-    }
-    values
-}
-
-fn wait_for(core: Core, wait: Wait) -> Core
-    ensures { λ r. ⌜ r ≡ withWait core wait ⌝ }
-{
-    let x = core.x;
-    let el1 = core.el1;
-    Core {
-        x,
-        elr: core.elr,
-        spsr: core.spsr,
-        el1,
-        wait,
     }
 }
 
@@ -327,56 +278,13 @@ pub fn save_core(core: Core, x: [u64; 31], elr: u64, spsr: u64) -> CoreStep
     }
 }
 
-// Gives one core the answer that it waits for.
-pub fn reply_core(core: Core, reply: HvcReply) -> CoreStep
-    ensures { λ r. ⌜ r ≡ replyCore core reply ⌝ }
+fn reply_answer(answer: ReplyAnswer) -> CoreAnswer
+    ensures { λ r. ⌜ r ≡ replyAnswer answer ⌝ }
 {
-    let wait = core.wait;
-    match wait {
-        Wait::Nothing => refuse_core(CoreError::NothingWaiting, core),
-        Wait::Call(conduit, recipient) => {
-            if may_reply(recipient, reply.kind) {
-                complete_call(conduit, core, reply)
-            } else {
-                refuse_core(CoreError::UnknownReplyKind, core)
-            }
-        }
-    }
-}
-
-// The firmware answers with one value or an error, kinds 1 and 4.
-fn may_reply(recipient: Recipient, kind: u64) -> bool
-    ensures { λ r. ⌜ r ≡ mayReply recipient kind ⌝ }
-{
-    match recipient {
-        Recipient::Firmware => kind == 1 || kind == 4,
-        Recipient::Platform => true,
-    }
-}
-
-fn complete_call(conduit: Conduit, core: Core, reply: HvcReply) -> CoreStep
-    ensures { λ r. ⌜ r ≡ completeCall conduit core reply ⌝ }
-{
-    let values = reply.values;
-    match HvcResult::from_kind(reply.kind, values[0], reply.error) {
-        HvcResultKind::Result(result) => {
-            let answered = result.modify_register_state(core, values);
-            CoreStep {
-                answer: CoreAnswer::Accepted,
-                core: resume(answered, conduit),
-            }
-        }
-        HvcResultKind::UnknownKind => refuse_core(CoreError::UnknownReplyKind, core),
-    }
-}
-
-// The core goes on: past an SMC, to which ELR still points, and from an HVC's ELR, which points past it.
-fn resume(core: Core, conduit: Conduit) -> Core
-    ensures { λ r. ⌜ r ≡ resumed conduit core ⌝ }
-{
-    match conduit {
-        Conduit::Hvc => wait_for(core, Wait::Nothing),
-        Conduit::Smc => wait_for(data_abort::advance_guest_pc(core), Wait::Nothing),
+    match answer {
+        ReplyAnswer::Accepted => CoreAnswer::Accepted,
+        ReplyAnswer::NothingWaiting => CoreAnswer::Refused(CoreError::NothingWaiting),
+        ReplyAnswer::UnknownReplyKind => CoreAnswer::Refused(CoreError::UnknownReplyKind),
     }
 }
 
@@ -409,8 +317,17 @@ pub fn reply(cores: [Core; 8], core: u64, reply: HvcReply) -> CoresStep
         return refuse_cores(cores);
     }
     let one = cores[core as usize];
-    let step = reply_core(one, reply);
-    place(cores, core, step)
+    let step = forwarded_call::reply_core(one, reply);
+    let answer = step.answer;
+    let after = step.core;
+    place(
+        cores,
+        core,
+        CoreStep {
+            answer: reply_answer(answer),
+            core: after,
+        },
+    )
 }
 
 // Takes a core's trap.

@@ -21,7 +21,7 @@ use Rattle.simple_map.specs.Map.{taken, insertItem}
 use Rattle.exceptions.specs.declared.Core.{Core}
 use Rattle.data_abort.specs.declared.TrapRegisters.{TrapRegisters}
 use Rattle.hypervisor.specs.declared.CoresStep.{CoresStep}
-use Rattle.hypervisor.specs.declared.HvcReply.{HvcReply}
+use Rattle.forwarded_call.specs.declared.HvcReply.{HvcReply}
 use Rattle.hypervisor.specs.declared.Trapped.{Trapped}
 use Rattle.hypervisor.specs.Cores.{freshCores, saveOn, trapOn, replyOn}
 

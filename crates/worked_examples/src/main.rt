@@ -12,9 +12,9 @@ ghost use Rattle.worked_examples.specs.Examples.{signedHalfword, readabl
 use data_abort::TrapRegisters;
 use exceptions::Core;
 use exceptions::GprRead;
+use forwarded_call::HvcReply;
 use hvc_response::HvcResult;
 use hypervisor::CoresStep;
-use hypervisor::HvcReply;
 use hypervisor::Trapped;
 use libc::STDOUT_FILENO;
 use memory_access::Decoded;

@@ -24,8 +24,8 @@ extend-read-result-requires c κs = search needs
 write-gpr-requires : tie.Need-write-gpr-requires
 write-gpr-requires c κs = search needs
 
-advance-guest-pc-requires : tie.Need-advance-guest-pc-requires
-advance-guest-pc-requires c κs = search needs
+advance-pc-requires : tie.Need-advance-pc-requires
+advance-pc-requires c κs = search needs
 
 enum-told-3 : tie.Need-enum-told-3
 enum-told-3 c = search needs
@@ -45,7 +45,7 @@ returns-2 c =
       c .before .before .before .before .before .before .before .before .enum-told2 .given .1,
       ← read .ensures,
       c .before .before .before .before .before .result .given .1,
-      c .advance-guest-pc .ensures,
+      c .advance-pc .ensures,
       c .before .before .write-gpr .ensures,
       c .before .before .before .extend-read-result .ensures,
     )
@@ -71,7 +71,7 @@ read-through-spec =
     enum-known-result
     extend-read-result-requires
     write-gpr-requires
-    advance-guest-pc-requires
+    advance-pc-requires
     enum-told-3
     unhandled-requires-2
     returns

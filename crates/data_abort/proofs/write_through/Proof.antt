@@ -36,8 +36,8 @@ write-filtered-mmio-requires c κs = search needs
 enum-told-3 : tie.Need-enum-told-3
 enum-told-3 c = search needs
 
-advance-guest-pc-requires : tie.Need-advance-guest-pc-requires
-advance-guest-pc-requires c κs = search needs
+advance-pc-requires : tie.Need-advance-pc-requires
+advance-pc-requires c κs = search needs
 
 enum-told-4 : tie.Need-enum-told-4
 enum-told-4 c = search needs
@@ -53,7 +53,7 @@ returns-2 : tie.Need-returns-2
 unfolding writeThrough
 returns-2 c =
     rw (
-      c .advance-guest-pc .ensures,
+      c .advance-pc .ensures,
       c .before .before .before .before .before .before .enum-told2 .given .1,
       ← stored (c .before .before .before),
       c .before .enum-told3 .given .1,
@@ -80,7 +80,7 @@ write-through-spec =
     store-value-requires
     write-filtered-mmio-requires
     enum-told-3
-    advance-guest-pc-requires
+    advance-pc-requires
     enum-told-4
     unhandled-requires-2
     returns

@@ -12,11 +12,17 @@ enum-told c = search needs
 forward-call-requires : tie.Need-forward-call-requires
 forward-call-requires c κs = search needs
 
+forwarded-requires : tie.Need-forwarded-requires
+forwarded-requires c κs = search needs
+
 enum-told-2 : tie.Need-enum-told-2
 enum-told-2 c = search needs
 
 forward-call-requires-2 : tie.Need-forward-call-requires-2
 forward-call-requires-2 c κs = search needs
+
+forwarded-requires-2 : tie.Need-forwarded-requires-2
+forwarded-requires-2 c κs = search needs
 
 enum-told-3 : tie.Need-enum-told-3
 enum-told-3 c = search needs
@@ -38,11 +44,23 @@ refuse-requires c κs = search needs
 
 returns : tie.Need-returns
 unfolding byClass
-returns c = rw (c .forward-call .ensures, ← c .before .before .before .exception-class .ensures, c .before .enum-told .given .1)
+returns c =
+    rw (
+      c .forwarded .ensures,
+      c .before .forward-call .ensures,
+      ← c .before .before .before .before .exception-class .ensures,
+      c .before .before .enum-told .given .1,
+    )
 
 returns-2 : tie.Need-returns-2
 unfolding byClass
-returns-2 c = rw (c .forward-call2 .ensures, ← c .before .before .before .exception-class .ensures, c .before .enum-told2 .given .1)
+returns-2 c =
+    rw (
+      c .forwarded2 .ensures,
+      c .before .forward-call2 .ensures,
+      ← c .before .before .before .before .exception-class .ensures,
+      c .before .before .enum-told2 .given .1,
+    )
 
 returns-3 : tie.Need-returns-3
 unfolding byClass
@@ -66,8 +84,10 @@ dispatch-spec =
     exception-class-requires
     enum-told
     forward-call-requires
+    forwarded-requires
     enum-told-2
     forward-call-requires-2
+    forwarded-requires-2
     enum-told-3
     handle-data-abort-requires
     abort-answer-requires

@@ -20,12 +20,21 @@ array-copy-out-one c = search needs
 reply-core-requires : tie.Need-reply-core-requires
 reply-core-requires c κs = search needs
 
+reply-answer-requires : tie.Need-reply-answer-requires
+reply-answer-requires c κs = search needs
+
 place-requires : tie.Need-place-requires
 place-requires c κs = search needs
 
 returns-2 : tie.Need-returns-2
 unfolding onCore replyOn noCore
-returns-2 c = rw (c .place .ensures, c .before .reply-core .ensures, lt-leb _ _ (c .before .before .before .if1 .left))
+returns-2 c =
+    rw (
+      c .place .ensures,
+      c .before .reply-answer .ensures,
+      c .before .before .before .reply-core .ensures,
+      lt-leb _ _ (c .before .before .before .before .before .if1 .left),
+    )
 
 pub reply-spec : {M : Type 1} → statement M
 reply-spec =
@@ -36,5 +45,6 @@ reply-spec =
     mul-one
     array-copy-out-one
     reply-core-requires
+    reply-answer-requires
     place-requires
     returns-2)

@@ -1,8 +1,9 @@
 use Rattle.memory_access.specs.Syndrome.{bitsAt}
 use Rattle.exceptions.specs.Registers.{freshCore, withRegisters}
 use Rattle.hvc_response.specs.Response.{resultOfKind, withFirst}
-use Rattle.hypervisor.specs.Trap.{exceptionClass, byClass, handleSyncLower, recipientOf, withWait, forwardCall}
-use Rattle.hypervisor.specs.Cores.{freshCores, saveCore, onCore, saveOn, trapOn, mayReply, replyCore, replyOn, resumed, completeCall}
+use Rattle.forwarded_call.specs.ForwardedCall.{recipientOf, withWait, forwardCall, mayReply, replyCore, resumed, completeCall}
+use Rattle.hypervisor.specs.Trap.{exceptionClass, byClass, handleSyncLower}
+use Rattle.hypervisor.specs.Cores.{freshCores, saveCore, onCore, saveOn, trapOn, replyOn}
 use Rattle.worked_examples.specs.Examples.{savedCores, trapped, replied}
 use borrow.Author.Needs.{needs}
 use Rattle.worked_examples.proofs.elr_after_an_hvc_error.Statement.{statement}

@@ -1,9 +1,9 @@
 use Rattle.memory_access.specs.Syndrome.{bitsAt}
-use Rattle.exceptions.specs.Registers.{freshCore, withRegisters}
+use Rattle.exceptions.specs.Registers.{freshCore, withRegisters, advancePc}
 use Rattle.hvc_response.specs.Response.{resultOfKind, withFirst}
-use Rattle.data_abort.specs.DataAbort.{advanced}
-use Rattle.hypervisor.specs.Trap.{exceptionClass, byClass, handleSyncLower, recipientOf, withWait, forwardCall}
-use Rattle.hypervisor.specs.Cores.{freshCores, saveCore, onCore, saveOn, trapOn, mayReply, replyCore, replyOn, resumed, completeCall}
+use Rattle.forwarded_call.specs.ForwardedCall.{recipientOf, withWait, forwardCall, mayReply, replyCore, resumed, completeCall}
+use Rattle.hypervisor.specs.Trap.{exceptionClass, byClass, handleSyncLower}
+use Rattle.hypervisor.specs.Cores.{freshCores, saveCore, onCore, saveOn, trapOn, replyOn}
 use Rattle.worked_examples.specs.Examples.{savedCores, trapped, replied}
 use borrow.Author.Needs.{needs}
 use Rattle.worked_examples.proofs.elr_after_an_smc_error.Statement.{statement}
@@ -17,7 +17,7 @@ elr-of-core-0-requires c κs = search needs
 
 returns : tie.Need-returns
 unfolding
-    bitsAt freshCore withRegisters resultOfKind withFirst advanced exceptionClass byClass handleSyncLower recipientOf withWait
+    bitsAt freshCore withRegisters resultOfKind withFirst advancePc exceptionClass byClass handleSyncLower recipientOf withWait
     forwardCall freshCores saveCore onCore saveOn trapOn mayReply replyCore replyOn resumed completeCall savedCores trapped replied
 returns c = rw (c .elr-of-core-0 .ensures, c .before .before .replied .ensures)
 

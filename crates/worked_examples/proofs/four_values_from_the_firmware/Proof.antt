@@ -1,7 +1,8 @@
 use Rattle.memory_access.specs.Syndrome.{bitsAt}
 use Rattle.exceptions.specs.Registers.{freshCore}
-use Rattle.hypervisor.specs.Trap.{exceptionClass, byClass, handleSyncLower, recipientOf, withWait, forwardCall}
-use Rattle.hypervisor.specs.Cores.{freshCores, saveCore, onCore, saveOn, trapOn, mayReply, replyCore, replyOn}
+use Rattle.forwarded_call.specs.ForwardedCall.{recipientOf, withWait, forwardCall, mayReply, replyCore}
+use Rattle.hypervisor.specs.Trap.{exceptionClass, byClass, handleSyncLower}
+use Rattle.hypervisor.specs.Cores.{freshCores, saveCore, onCore, saveOn, trapOn, replyOn}
 use Rattle.worked_examples.specs.Examples.{savedCores, trapped, replied}
 use borrow.Author.Needs.{needs}
 use Rattle.worked_examples.proofs.four_values_from_the_firmware.Statement.{statement}

@@ -4,9 +4,9 @@ use Rattle.memory_access.specs.Transfer.{lowBits, extendReadResult, loaded, atR
 use Rattle.stage2_range.specs.Ranges.{validateRange, overlapsAllowed}
 use Rattle.stage2_range.specs.Registry.{findRegion, registerAnswer, overlapsRegions, fits, insertRegion}
 use Rattle.stage2.specs.Policy.{freshPolicy, handleRange, handleAnswerFor, withRegion}
-use Rattle.exceptions.specs.Registers.{freshCore, withRegisters, writeGpr}
+use Rattle.exceptions.specs.Registers.{freshCore, withRegisters, writeGpr, advancePc}
 use Rattle.qemu.specs.FilteredMmio.{wordAt, loadsCounter, counterAfter, readFilteredMmio}
-use Rattle.data_abort.specs.DataAbort.{tryMemoryAccess, handleDataAbort, readThrough, accessIn, advanced}
+use Rattle.data_abort.specs.DataAbort.{tryMemoryAccess, handleDataAbort, readThrough, accessIn}
 use Rattle.hypervisor.specs.Answers.{answered}
 use Rattle.hypervisor.specs.Trap.{exceptionClass, byClass, handleSyncLower}
 use Rattle.hypervisor.specs.Cores.{freshCores, saveCore, onCore, saveOn, trapOn}
@@ -37,7 +37,7 @@ returns : tie.Need-returns
 unfolding
     held bitsAt bitAt faultIpa decodeAccess lowBits extendReadResult loaded atRegisterWidth validateRange overlapsAllowed findRegion
     registerAnswer overlapsRegions fits insertRegion freshPolicy handleRange handleAnswerFor withRegion freshCore withRegisters
-    writeGpr wordAt loadsCounter counterAfter readFilteredMmio tryMemoryAccess handleDataAbort readThrough accessIn advanced answered
+    writeGpr wordAt loadsCounter counterAfter readFilteredMmio tryMemoryAccess handleDataAbort readThrough accessIn advancePc answered
     exceptionClass byClass handleSyncLower freshCores saveCore onCore saveOn trapOn savedCores trapped oneRegion
 returns c =
     rw (

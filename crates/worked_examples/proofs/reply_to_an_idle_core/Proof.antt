@@ -1,5 +1,6 @@
 use Rattle.exceptions.specs.Registers.{freshCore}
-use Rattle.hypervisor.specs.Cores.{freshCores, replyCore, onCore, replyOn}
+use Rattle.forwarded_call.specs.ForwardedCall.{replyCore}
+use Rattle.hypervisor.specs.Cores.{freshCores, onCore, replyOn}
 use borrow.Author.Needs.{needs}
 use Rattle.worked_examples.proofs.reply_to_an_idle_core.Statement.{statement}
 use Rattle.worked_examples.proofs.reply_to_an_idle_core.Tie as tie

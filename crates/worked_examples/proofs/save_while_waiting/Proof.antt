@@ -1,6 +1,7 @@
 use Rattle.memory_access.specs.Syndrome.{bitsAt}
 use Rattle.exceptions.specs.Registers.{freshCore}
-use Rattle.hypervisor.specs.Trap.{exceptionClass, byClass, handleSyncLower, withWait, forwardCall}
+use Rattle.forwarded_call.specs.ForwardedCall.{withWait, forwardCall}
+use Rattle.hypervisor.specs.Trap.{exceptionClass, byClass, handleSyncLower}
 use Rattle.hypervisor.specs.Cores.{freshCores, saveCore, onCore, saveOn, trapOn}
 use Rattle.worked_examples.specs.Examples.{savedCores, trapped}
 use borrow.Author.Needs.{needs}

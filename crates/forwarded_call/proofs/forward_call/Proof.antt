@@ -1,11 +1,11 @@
-use Rattle.hypervisor.specs.Trap.{registersFor, forwardCall}
+use Rattle.forwarded_call.specs.ForwardedCall.{registersFor, forwardCall}
 use Prim.Native.Nat.{_≤_}
 use native.Mathlib.Omega.{arith}
 use Rattle.exceptions.specs.declared.Recipient.{Recipient}
 use Rattle.exceptions.specs.declared.Recipient.the-variants.{Firmware, Platform}
 use borrow.Author.Needs.{needs}
-use Rattle.hypervisor.proofs.forward_call.Statement.{statement}
-use Rattle.hypervisor.proofs.forward_call.Tie as tie
+use Rattle.forwarded_call.proofs.forward_call.Statement.{statement}
+use Rattle.forwarded_call.proofs.forward_call.Tie as tie
 
 array-read-recipient-of : tie.Need-array-read-recipient-of
 array-read-recipient-of c = search needs

@@ -1,8 +1,8 @@
 use native.Mathlib.Omega.{arith}
-use Rattle.hypervisor.specs.Trap.{recipientOf}
-use Rattle.hypervisor.proofs.Laws.{inside, below, above}
-use Rattle.hypervisor.proofs.recipient_of.Statement.{statement}
-use Rattle.hypervisor.proofs.recipient_of.Tie as tie
+use Rattle.forwarded_call.specs.ForwardedCall.{recipientOf}
+use Rattle.forwarded_call.proofs.Laws.{inside, below, above}
+use Rattle.forwarded_call.proofs.recipient_of.Statement.{statement}
+use Rattle.forwarded_call.proofs.recipient_of.Tie as tie
 
 returns : tie.Need-returns
 unfolding recipientOf

@@ -1,14 +1,14 @@
 -- The loop's invariant: the registers before `index` stand before zeros.
 use Prim.Native.Nat.{_+_, _-_, _≤_}
-use mathlib.Core.Path.{_≡_, _∙_}
+use mathlib.Core.Path.{_≡_}
 use native.Mathlib.Omega.{arith}
 use borrow.Author.Needs.{needs}
 use lib.ListN.{length, replicate}
 use lib.Seq.{paste, paste-zero}
-use Rattle.hypervisor.specs.Trap.{forwardedValues}
-use Rattle.hypervisor.proofs.Laws.{copied, drop-zeros}
-use Rattle.hypervisor.proofs.first_registers.Statement.{statement}
-use Rattle.hypervisor.proofs.first_registers.Tie as tie
+use Rattle.forwarded_call.specs.ForwardedCall.{forwardedValues}
+use Rattle.forwarded_call.proofs.Laws.{copied, drop-zeros}
+use Rattle.forwarded_call.proofs.first_registers.Statement.{statement}
+use Rattle.forwarded_call.proofs.first_registers.Tie as tie
 
 abbrev Inv-loop : tie.InvT-loop
 Inv-loop count x values₀ index₀ values index = (index ≤ count) × (values ≡ paste (replicate 18 0) 0 x index)
@@ -19,11 +19,8 @@ abbrev μ-loop : tie.MeasureT-loop
 registers-length : (c : tie.Start Inv-loop μ-loop) → length (c .args .t1) ≡ 31
 registers-length c = search needs
 
-no-values-requires : tie.Need-no-values-requires Inv-loop μ-loop
-no-values-requires c κs = search needs
-
 loop-holds : tie.Need-loop-holds Inv-loop μ-loop
-loop-holds c = (omega arith, c .no-values .ensures ∙ paste-zero _ 0 (c .before .args .t1))
+loop-holds c = (omega arith, paste-zero _ 0 (c .args .t1))
 
 mul-values : tie.Need-mul-values Inv-loop μ-loop
 mul-values c = omega arith
@@ -45,14 +42,14 @@ loop-less c = omega arith
 
 loop-again : tie.Need-loop-again Inv-loop μ-loop
 loop-again c =
-    let a = c .before .before .before .args in
-    let k = registers-length (c .before .before .before) in
+    let a = c .before .before .args in
+    let k = registers-length (c .before .before) in
     (omega arith, copied (replicate 18 0) (a .t1) (c .before .loop .values) (c .before .loop .index) (omega arith) (omega arith) (c .before .loop .inv .1))
 
 returns : tie.Need-returns Inv-loop μ-loop
 unfolding forwardedValues
 returns c =
-    let n = c .before .before .before .args .count in
+    let n = c .before .before .args .count in
     let e : c .before .loop .index ≡ n = omega arith in
     let z : 0 + n ≡ n = omega arith in
     rw (c .before .loop .inv .1, e, z, drop-zeros n 18)
@@ -63,7 +60,6 @@ first-registers-spec =
     (tie.spec
     Inv-loop
     μ-loop
-    no-values-requires
     loop-holds
     mul-values
     array-read-values

@@ -1,8 +1,8 @@
 use borrow.Author.Tests.{eq-eqb, ne-eqb}
-use Rattle.hypervisor.specs.Cores.{mayReply}
+use Rattle.forwarded_call.specs.ForwardedCall.{mayReply}
 use borrow.Author.Needs.{needs}
-use Rattle.hypervisor.proofs.may_reply.Statement.{statement}
-use Rattle.hypervisor.proofs.may_reply.Tie as tie
+use Rattle.forwarded_call.proofs.may_reply.Statement.{statement}
+use Rattle.forwarded_call.proofs.may_reply.Tie as tie
 
 enum-told : tie.Need-enum-told
 enum-told c = search needs

@@ -3,10 +3,10 @@ use lib.ListN.{getD}
 use Rattle.hvc_response.specs.Response.{resultOfKind}
 use mir.Syntax.{w32}
 use mir.ValLaws.{toZ-ofZ}
-use Rattle.hypervisor.specs.Cores.{completeCall}
+use Rattle.forwarded_call.specs.ForwardedCall.{completeCall}
 use borrow.Author.Needs.{needs}
-use Rattle.hypervisor.proofs.complete_call.Statement.{statement}
-use Rattle.hypervisor.proofs.complete_call.Tie as tie
+use Rattle.forwarded_call.proofs.complete_call.Statement.{statement}
+use Rattle.forwarded_call.proofs.complete_call.Tie as tie
 
 -- the result that the kind names, of the error as the record holds it
 named : (c : tie.After-from-kind) →
@@ -36,8 +36,8 @@ resume-requires c κs = search needs
 enum-told : tie.Need-enum-told
 enum-told c = search needs
 
-refuse-core-requires : tie.Need-refuse-core-requires
-refuse-core-requires c κs = search needs
+refuse-requires : tie.Need-refuse-requires
+refuse-requires c κs = search needs
 
 returns : tie.Need-returns
 unfolding completeCall
@@ -51,7 +51,7 @@ returns c =
 
 returns-2 : tie.Need-returns-2
 unfolding completeCall
-returns-2 c = rw (c .refuse-core .ensures, ← named (c .before .before .before), c .before .enum-told .given .1)
+returns-2 c = rw (c .refuse .ensures, ← named (c .before .before .before), c .before .enum-told .given .1)
 
 pub complete-call-spec : {M : Type 1} → statement M
 complete-call-spec =
@@ -63,6 +63,6 @@ complete-call-spec =
     modify-register-state-requires
     resume-requires
     enum-told
-    refuse-core-requires
+    refuse-requires
     returns
     returns-2)

@@ -1,7 +1,7 @@
-use Rattle.hypervisor.specs.Cores.{resumed}
+use Rattle.forwarded_call.specs.ForwardedCall.{resumed}
 use borrow.Author.Needs.{needs}
-use Rattle.hypervisor.proofs.resume.Statement.{statement}
-use Rattle.hypervisor.proofs.resume.Tie as tie
+use Rattle.forwarded_call.proofs.resume.Statement.{statement}
+use Rattle.forwarded_call.proofs.resume.Tie as tie
 
 enum-told : tie.Need-enum-told
 enum-told c = search needs
@@ -12,8 +12,8 @@ wait-for-requires c κs = search needs
 enum-told-2 : tie.Need-enum-told-2
 enum-told-2 c = search needs
 
-advance-guest-pc-requires : tie.Need-advance-guest-pc-requires
-advance-guest-pc-requires c κs = search needs
+advance-pc-requires : tie.Need-advance-pc-requires
+advance-pc-requires c κs = search needs
 
 wait-for-requires-2 : tie.Need-wait-for-requires-2
 wait-for-requires-2 c κs = search needs
@@ -24,7 +24,7 @@ returns c = rw (c .wait-for .ensures, c .before .enum-told .given .1)
 
 returns-2 : tie.Need-returns-2
 unfolding resumed
-returns-2 c = rw (c .wait-for2 .ensures, c .before .advance-guest-pc .ensures, c .before .before .enum-told2 .given .1)
+returns-2 c = rw (c .wait-for2 .ensures, c .before .advance-pc .ensures, c .before .before .enum-told2 .given .1)
 
 pub resume-spec : {M : Type 1} → statement M
 resume-spec =
@@ -33,7 +33,7 @@ resume-spec =
     enum-told
     wait-for-requires
     enum-told-2
-    advance-guest-pc-requires
+    advance-pc-requires
     wait-for-requires-2
     returns
     returns-2)

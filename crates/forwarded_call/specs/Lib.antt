@@ -1,0 +1,2 @@
+-- What the contracts of `forwarded_call` cite.
+pub mod ForwardedCall
