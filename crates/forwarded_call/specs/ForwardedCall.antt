@@ -35,7 +35,7 @@ abbrev pub registersFor : Recipient → ℕ
 registersFor Firmware = 4
 registersFor Platform = 18
 
--- the first registers, "with zeros past them"
+-- the first registers, and zeros past them
 unfoldable pub forwardedValues : List ℕ → ℕ → List ℕ
 forwardedValues x n = take n x ++ replicate (18 - n) 0
 

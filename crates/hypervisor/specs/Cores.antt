@@ -29,7 +29,7 @@ use Rattle.hypervisor.specs.Trap.{ec, handleSyncLower}
 unfoldable pub freshCores : List Core
 freshCores = replicate 8 freshCore
 
--- "A save step puts in x0 to x30, ELR and SPSR as the hardware saved them"; 11: "trap or save while waiting"
+-- "A save step .. puts in x0 to x30, ELR and SPSR as the hardware saved them"; 11: "trap or save while waiting"
 unfoldable pub saveCore : Core → List ℕ → ℕ → ℕ → CoreStep
 saveCore core x elr spsr =
     cond (waits (core .wait)) (refusedCore CoreWaiting core)

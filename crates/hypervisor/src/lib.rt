@@ -224,6 +224,7 @@ fn exception_class(esr: u64) -> ExceptionClass
     }
 }
 
+// A data abort's answer among a trap's.
 fn abort_answer(answer: AbortAnswer) -> TrapAnswer
     ensures { λ r. ⌜ r ≡ abortAnswer answer ⌝ }
 {
@@ -234,6 +235,7 @@ fn abort_answer(answer: AbortAnswer) -> TrapAnswer
     }
 }
 
+// A forwarded call as a trap's step.
 fn forwarded(call: ForwardedCall, counter: u64) -> TrapStep
     ensures { λ r. ⌜ r ≡ forwarded call counter ⌝ }
 {
@@ -278,6 +280,7 @@ pub fn save_core(core: Core, x: [u64; 31], elr: u64, spsr: u64) -> CoreStep
     }
 }
 
+// A reply's answer among those of a core.
 fn reply_answer(answer: ReplyAnswer) -> CoreAnswer
     ensures { λ r. ⌜ r ≡ replyAnswer answer ⌝ }
 {
