@@ -341,7 +341,7 @@ fn allowed_over_a_region() -> u64
     answer.number()
 }
 
-fn handled_with_half_2() -> u64
+fn handled_with_handler_2() -> u64
     ensures { λ r. ⌜ r ≡ 20 ⌝ }
 {
     let built = Policy::new().handle_range(0x1000, 0x1000, 1, 2);
@@ -611,7 +611,7 @@ fn counters() {
 
 fn policies() {
     number(b"allow over a region", allowed_over_a_region(), 7);
-    number(b"handle with write half 2", handled_with_half_2(), 20);
+    number(b"handle with write handler 2", handled_with_handler_2(), 20);
     value(
         b"regions 0x0F000000, then 0x09000000: offset of 0x0F000018",
         offset_in_the_second_region(),

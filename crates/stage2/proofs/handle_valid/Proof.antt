@@ -1,11 +1,13 @@
 use Rattle.stage2_range.specs.Registry.{registerAnswer, registeredBy, registerRegion}
 use mathlib.Core.Path.{_≡_, refl, sym, _∙_}
+use mathlib.Core.Bool.{false}
+use Rattle.stage2_range.specs.Ranges.{overlapsAllowed}
 use Rattle.stage2_range.specs.declared.Stage2Result.{Stage2Result}
 use Rattle.stage2_range.specs.declared.Stage2Result.the-variants.{Accepted, Refused}
 use Rattle.stage2_range.specs.declared.MemoryAccessRegion.{MemoryAccessRegion}
 use Rattle.stage2.specs.declared.Policy.{Policy}
 use Rattle.stage2.specs.declared.Built.{Built}
-use Rattle.stage2.specs.Policy.{builtBy, handleAnswerFor, withRegion}
+use Rattle.stage2.specs.Policy.{allowedHeld, builtBy, handleAnswerFor, withRegion}
 use borrow.Author.Needs.{needs}
 use Rattle.stage2.proofs.handle_valid.Statement.{statement}
 use Rattle.stage2.proofs.handle_valid.Tie as tie
@@ -28,6 +30,12 @@ unfolding withRegion
 registered-built Accepted p r = refl
 registered-built (Refused error) p r = refl
 
+-- past the test no allowed range shares a byte
+apart : (c : tie.Else1) →
+    let a = c .before .before .before .before .args in
+    overlapsAllowed (allowedHeld (a .policy)) (a .region .«base_ipa») (a .region .«end_ipa») ≡ false
+apart c = sym (c .before .overlaps-allowed .ensures) ∙ c .if1 .left
+
 overlaps-allowed-requires : tie.Need-overlaps-allowed-requires
 overlaps-allowed-requires c κs = search needs
 
@@ -45,7 +53,7 @@ returns-2 : tie.Need-returns-2
 unfolding handleAnswerFor registerRegion
 returns-2 c =
     let a = c .before .before .before .before .before .before .args in
-    rw (c .before .register .ensures, sym (c .before .before .before .overlaps-allowed .ensures) ∙ c .before .before .if1 .left)
+    rw (c .before .register .ensures, apart (c .before .before))
     (registered-built (registerAnswer (a .policy .regions) (a .policy .«region_count») (a .region)) (a .policy) (a .region))
 
 pub handle-valid-spec : {M : Type 1} → statement M
