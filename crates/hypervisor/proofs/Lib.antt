@@ -3,5 +3,3 @@ pub mod Laws
 pub mod Refusals
 pub mod Steps
 pub mod CounterWord
-pub mod Calls
-pub mod Waiting

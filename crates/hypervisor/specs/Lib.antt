@@ -1,6 +1,5 @@
--- What the contracts of `hypervisor` cite, when a trap loads the counter word, and the host's calls as one.
+-- What the contracts of `hypervisor` cite, and when a trap loads the counter word.
 pub mod Answers
 pub mod Trap
 pub mod Cores
 pub mod CounterWord
-pub mod Calls

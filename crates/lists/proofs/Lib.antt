@@ -1,2 +1,4 @@
 -- Laws that the proofs of the crates above cite.
 pub mod Laws
+pub mod Counts
+pub mod Sorting

@@ -6,7 +6,7 @@ use native.Mathlib.Omega.{arith}
 use mathlib.Core.List.{List, List·Memᴰ}
 use lib.Dec.{ltb}
 use lib.ListN.{length, getD, set}
-use Rattle.lists.specs.Lists.{firstIndex}
+use Rattle.lists.specs.Lists.{anyOf, firstIndex}
 use Rattle.lists.proofs.Laws.{first-at, first-none, none-first, any-at, replace-at, replace-any, length-replace}
 use Rattle.simple_map.specs.declared.OptionItem.{OptionItem}
 use Rattle.simple_map.specs.declared.OptionItem.the-variants.{None, Some}
@@ -46,6 +46,11 @@ pub none-get : (map : SimpleMap) (key : ℕ) → ((place : Place) → List·Mem�
 unfolding getItem
 none-get map key h = none-first (holdsKey key) valueOf Nothing (map .items) h
 
+-- there is room where a place is free once the first item with the key is removed
+pub room-any : (map : SimpleMap) (key : ℕ) → hasRoom map key ≡ anyOf isFree (without key (map .items))
+unfolding hasRoom without fits
+room-any map key = sym (replace-any (holdsKey key) isFree freePlace refl (map .items))
+
 module _ (map : SimpleMap) (key : ℕ) (value : SuspendCoreData) where
   -- the places once the first item with the key is removed, and the first that is free then
   abbrev rest : List Place
@@ -54,11 +59,11 @@ module _ (map : SimpleMap) (key : ℕ) (value : SuspendCoreData) where
   abbrev free-at : ℕ
   free-at = firstIndex isFree rest
 
-  -- there is room where one is free
+  -- there is room where that is a place
   room-at : hasRoom map key ≡ ltb free-at (length (map .items))
-  unfolding hasRoom without fits
+  unfolding without
   room-at =
-      sym (replace-any (holdsKey key) isFree freePlace refl (map .items))
+      room-any map key
       ∙ any-at isFree rest
       ∙ ap (ltb free-at) (length-replace (holdsKey key) freePlace (map .items))
 

@@ -1,3 +1,4 @@
 -- Laws that the proofs of the crates above cite.
 pub mod Laws
 pub mod WellFormed
+pub mod Order

@@ -60,7 +60,7 @@ module _ {A : Type 0} (base end : A → ℕ) where
       go (inr m′) (inr n′) below = below m′ n′
 
 -- a range that is allowed stands after those held
-allowed-held : (p : Policy) (r : Stage2Range) → length (p .allowed) ≡ 32 → p .«allowed_count» < 32
+pub allowed-held : (p : Policy) (r : Stage2Range) → length (p .allowed) ≡ 32 → p .«allowed_count» < 32
     → allowedHeld (withAllowed p r) ≡ insertBefore (λ x. false) r (allowedHeld p)
 unfolding withAllowed
 allowed-held p r full room =
@@ -71,7 +71,7 @@ allowed-held p r full room =
     (sym (insert-end r (take n (p .allowed))))
 
 -- a region that is handled stands among those held, before the first whose base is not below its own
-regions-held : (p : Policy) (r : MemoryAccessRegion) → length (p .regions) ≡ 16 → p .«region_count» < 16
+pub regions-held : (p : Policy) (r : MemoryAccessRegion) → length (p .regions) ≡ 16 → p .«region_count» < 16
     → regionsHeld (withRegion p r) ≡ insertBefore (λ x. leb (r .«base_ipa») (x .«base_ipa»)) r (regionsHeld p)
 unfolding withRegion
 regions-held p r full room =
@@ -155,7 +155,7 @@ build-keeps p c w = go c (build p c .answer) refl
         let k = handle-accepted p base size read write h in
         rw (can-handle p base size read write k) (handle-keeps p base size read write w k)
 
-build-all-keeps : (p : Policy) (calls : List BuilderCall) → WellFormed p → WellFormed (buildAll p calls)
+pub build-all-keeps : (p : Policy) (calls : List BuilderCall) → WellFormed p → WellFormed (buildAll p calls)
 build-all-keeps p [] w = w
 build-all-keeps p (c ∷ cs) w = build-all-keeps (build p c .policy) cs (build-keeps p c w)
 

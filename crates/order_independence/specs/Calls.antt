@@ -1,7 +1,7 @@
 -- The host's calls as one, over the whole state. Assumes nothing.
 use Prim.Native.Nat.{ℕ}
 use mathlib.Core.Bool.{Bool, true, false, _&&_, cond}
-use mathlib.Core.List.{List, [], _∷_}
+use mathlib.Core.List.{List, [], _∷_, foldl}
 use lib.Dec.{eqb}
 use lib.ListN.{getD, set}
 use Rattle.stage2_range.specs.declared.Stage2Result.{Stage2Result}
@@ -37,16 +37,26 @@ pub record State : Type 0 where
 unfoldable pub freshState : State
 freshState = record { policy = freshPolicy; cores = freshCores; counter = 0; map = emptyMap }
 
--- the calls: a builder call, or a core step
+-- the two forms of `write_gpr`, "by value or lent": the contracts of both cite one definition
+pub data GprForm : Type 0 where
+  by-value : GprForm
+  lent : GprForm
+
+-- "Core steps are save, trap and reply with any core number; `write_gpr`, by value or lent, on a record of the eight, which is put back;
+-- insert, look-up and remove"
+pub data CoreCall : Type 0 where
+  save : (core : ℕ) (x : List ℕ) (elr spsr : ℕ) → CoreCall
+  trap : (core : ℕ) (registers : TrapRegisters) → CoreCall
+  reply : (core : ℕ) (result : HvcReply) → CoreCall
+  write-gpr : (form : GprForm) (core index value : ℕ) → CoreCall
+  insert : (key : ℕ) (value : SuspendCoreData) → CoreCall
+  get : (key : ℕ) → CoreCall
+  remove : (key : ℕ) → CoreCall
+
+-- the calls of the host: a builder call, or a core step
 pub data HostCall : Type 0 where
   build : (call : builds.BuilderCall) → HostCall
-  save : (core : ℕ) (x : List ℕ) (elr spsr : ℕ) → HostCall
-  trap : (core : ℕ) (registers : TrapRegisters) → HostCall
-  reply : (core : ℕ) (result : HvcReply) → HostCall
-  write-gpr : (core index value : ℕ) → HostCall
-  insert : (key : ℕ) (value : SuspendCoreData) → HostCall
-  get : (key : ℕ) → HostCall
-  remove : (key : ℕ) → HostCall
+  core-call : (call : CoreCall) → HostCall
 
 -- what a call answers, with every result field beside the state
 pub data Answer : Type 0 where
@@ -80,35 +90,56 @@ withCores s cores = record { policy = s .policy; cores = cores; counter = s .cou
 abbrev pub withMap : State → SimpleMap → State
 withMap s map = record { policy = s .policy; cores = s .cores; counter = s .counter; map = map }
 
--- a call, by the definitions that the contracts cite. `write_gpr` is "on a record of the eight, which is put back".
-abbrev pub call : State → HostCall → Called
-call s (build c) =
-    let b = builds.build (s .policy) c in
-    record { answer = built (b .answer); state = withPolicy s (b .policy) }
-call s (save core x elr spsr) =
+-- a core step, by the definitions that the contracts cite
+abbrev pub coreCall : State → CoreCall → Called
+coreCall s (save core x elr spsr) =
     let r = saveOn (s .cores) core x elr spsr in
     record { answer = stepped (r .answer); state = withCores s (r .cores) }
-call s (trap core registers) =
+coreCall s (trap core registers) =
     let t = trapOn (s .policy) (s .cores) (s .counter) core registers in
     record {
       answer = trapped (t .answer) (t .values);
       state = record { policy = t .policy; cores = t .cores; counter = t .counter; map = s .map };
     }
-call s (reply core result) =
+coreCall s (reply core result) =
     let r = replyOn (s .cores) core result in
     record { answer = stepped (r .answer); state = withCores s (r .cores) }
-call s (write-gpr core index value) =
+coreCall s (write-gpr form core index value) =
     let w = writeGpr (getD (s .cores) core noCore) index value in
     record { answer = written (w .answer); state = withCores s (set (s .cores) core (w .core)) }
-call s (insert key value) =
+coreCall s (insert key value) =
     let i = insertItem (s .map) key value in
     record { answer = inserted (i .answer); state = withMap s (i .map) }
-call s (get key) = record { answer = looked-up (getItem (s .map) key); state = s }
-call s (remove key) =
+coreCall s (get key) = record { answer = looked-up (getItem (s .map) key); state = s }
+coreCall s (remove key) =
     let r = removeItem (s .map) key in
     record { answer = looked-up (r .removed); state = withMap s (r .map) }
 
--- "Each call gets the state that the last one handed back"
+-- a call, by the same
+abbrev pub call : State → HostCall → Called
+call s (build c) =
+    let b = builds.build (s .policy) c in
+    record { answer = built (b .answer); state = withPolicy s (b .policy) }
+call s (core-call c) = coreCall s c
+
+-- the state after a list of builder calls
+abbrev pub afterBuilds : State → List builds.BuilderCall → State
+afterBuilds s calls = withPolicy s (builds.buildAll (s .policy) calls)
+
+-- the state after a list of core steps: "Each call gets the state that the last one handed back"
+abbrev pub afterSteps : State → List CoreCall → State
+afterSteps s steps = foldl (λ t c. coreCall t c .state) s steps
+
+-- the answers of a run to the steps that fit, in order
+abbrev pub answersIn : {S C A : Type 0} → (S → C → A) → (S → C → S) → (C → Bool) → S → List C → List A
+answersIn answer next fits s [] = []
+answersIn answer next fits s (c ∷ cs) =
+    cond (fits c) (answer s c ∷ answersIn answer next fits (next s c) cs) (answersIn answer next fits (next s c) cs)
+
+abbrev pub answersTo : (CoreCall → Bool) → State → List CoreCall → List Answer
+answersTo fits s steps = answersIn (λ t c. coreCall t c .answer) (λ t c. coreCall t c .state) fits s steps
+
+-- the state after a list of calls
 abbrev pub callAll : State → List HostCall → State
 callAll s [] = s
 callAll s (c ∷ cs) = callAll (call s c .state) cs
@@ -126,15 +157,16 @@ isForwarded (trap-answer.Refused error) = false
 
 -- whether core `i` is between a forwarded call (document 01: a hand-out) and its reply, after one more call
 abbrev pub outstandingAfter : State → ℕ → Bool → HostCall → Bool
-outstandingAfter s i before (trap core registers) =
-    cond (eqb core i && isForwarded (trapOn (s .policy) (s .cores) (s .counter) core registers .answer)) true before
-outstandingAfter s i before (reply core result) = cond (eqb core i && eqb (coreNumber (replyOn (s .cores) core result .answer)) 0) false before
 outstandingAfter s i before (build c) = before
-outstandingAfter s i before (save core x elr spsr) = before
-outstandingAfter s i before (write-gpr core index value) = before
-outstandingAfter s i before (insert key value) = before
-outstandingAfter s i before (get key) = before
-outstandingAfter s i before (remove key) = before
+outstandingAfter s i before (core-call (save core x elr spsr)) = before
+outstandingAfter s i before (core-call (trap core registers)) =
+    cond (eqb core i && isForwarded (trapOn (s .policy) (s .cores) (s .counter) core registers .answer)) true before
+outstandingAfter s i before (core-call (reply core result)) =
+    cond (eqb core i && eqb (coreNumber (replyOn (s .cores) core result .answer)) 0) false before
+outstandingAfter s i before (core-call (write-gpr form core index value)) = before
+outstandingAfter s i before (core-call (insert key value)) = before
+outstandingAfter s i before (core-call (get key)) = before
+outstandingAfter s i before (core-call (remove key)) = before
 
 -- the same after a list of calls
 abbrev pub outstanding : State → ℕ → Bool → List HostCall → Bool

@@ -24,16 +24,16 @@ use Rattle.data_abort.specs.declared.AbortAnswer.the-variants as abort
 use Rattle.data_abort.specs.declared.TrapRegisters.{TrapRegisters}
 use Rattle.data_abort.specs.DataAbort.{handleDataAbort}
 use Rattle.data_abort.proofs.Laws.{abort-wait}
 use Rattle.hypervisor.specs.declared.CoreStep.{CoreStep}
 use Rattle.hypervisor.specs.declared.TrapStep.{TrapStep}
 use Rattle.hypervisor.specs.declared.Trapped.{Trapped}
 use Rattle.hypervisor.specs.Answers.{coreNumber, abortAnswer, answered}
 use Rattle.hypervisor.specs.Trap.{ec, exceptionClass, byClass, handleSyncLower}
 use Rattle.hypervisor.specs.Cores.{noCore, freshCores, saveCore, replyStep, onCore, saveOn, replyOn, trapOn}
-use Rattle.hypervisor.specs.Calls.{State, freshState, HostCall, build, save, trap, reply, write-gpr, insert, get, remove, call, callAll, waitOf, isForwarded, outstandingAfter, outstanding}
+use Rattle.order_independence.specs.Calls.{State, freshState, HostCall, build, core-call, GprForm, save, trap, reply, write-gpr, insert, get, remove, call, callAll, waitOf, isForwarded, outstandingAfter, outstanding}
 use Rattle.hypervisor.proofs.Laws.{by-class}
 use Rattle.hypervisor.proofs.Refusals.{reply-answer-number}
 use Rattle.hypervisor.proofs.Steps.{trap-step, trap-others, trap-places, core-step, core-others, core-places}
 
 -- What each step does to the wait of its core.
 save-wait : (core : Core) (x : List ℕ) (elr spsr : ℕ) → saveCore core x elr spsr .core .wait ≡ core .wait
@@ -80,7 +80,7 @@ module _ (s : State) (i : ℕ) (within : i ≤ 7) (places : length (s .cores) �
       go false e = elsewhere j (λ z. eqb-false j i e (sym z))
 
   trap-after : (registers : TrapRegisters) (j : ℕ)
-      → waits (waitOf (call s (trap j registers) .state) i) ≡ outstandingAfter s i (waits (waitOf s i)) (trap j registers)
+      → waits (waitOf (call s (core-call (trap j registers)) .state) i) ≡ outstandingAfter s i (waits (waitOf s i)) (core-call (trap j registers))
   trap-after registers =
       let t : ℕ → Trapped = λ j. trapOn (s .policy) (s .cores) (s .counter) j registers in
       let step = trap-step (s .policy) (s .cores) (s .counter) i registers within places in
@@ -90,7 +90,7 @@ module _ (s : State) (i : ℕ) (within : i ≤ 7) (places : length (s .cores) �
       (λ j h. ap (λ (c : Core). waits (c .wait)) (trap-others (s .policy) (s .cores) (s .counter) j registers i h))
 
   reply-after : (result : HvcReply) (j : ℕ)
-      → waits (waitOf (call s (reply j result) .state) i) ≡ outstandingAfter s i (waits (waitOf s i)) (reply j result)
+      → waits (waitOf (call s (core-call (reply j result)) .state) i) ≡ outstandingAfter s i (waits (waitOf s i)) (core-call (reply j result))
   unfolding replyOn
   reply-after result =
       let step : Core → CoreStep = λ core. replyStep (replyCore core result) in
@@ -100,7 +100,7 @@ module _ (s : State) (i : ℕ) (within : i ≤ 7) (places : length (s .cores) �
       (rw (ap (λ (x : CoreStep). x .core) own, ap (λ (x : CoreStep). x .answer) own) (reply-waits (getD (s .cores) i noCore) result))
       (λ j h. ap (λ (c : Core). waits (c .wait)) (core-others (s .cores) j step i h))
 
-  save-after : (x : List ℕ) (elr spsr j : ℕ) → waits (waitOf (call s (save j x elr spsr) .state) i) ≡ waits (waitOf s i)
+  save-after : (x : List ℕ) (elr spsr j : ℕ) → waits (waitOf (call s (core-call (save j x elr spsr)) .state) i) ≡ waits (waitOf s i)
   unfolding saveOn
   save-after x elr spsr =
       let step : Core → CoreStep = λ core. saveCore core x elr spsr in
@@ -108,8 +108,8 @@ module _ (s : State) (i : ℕ) (within : i ≤ 7) (places : length (s .cores) �
       (rw (ap (λ (x : CoreStep). x .core) (core-step (s .cores) i step within places), save-wait (getD (s .cores) i noCore) x elr spsr))
       (λ j h. ap (λ (c : Core). waits (c .wait)) (core-others (s .cores) j step i h))
 
-  write-after : (index value j : ℕ) → waits (waitOf (call s (write-gpr j index value) .state) i) ≡ waits (waitOf s i)
-  write-after index value =
+  write-after : (form : GprForm) (index value j : ℕ) → waits (waitOf (call s (core-call (write-gpr form j index value)) .state) i) ≡ waits (waitOf s i)
+  write-after form index value =
       let written : ℕ → Core = λ j. writeGpr (getD (s .cores) j noCore) index value .core in
       by-core (λ j. set (s .cores) j (written j)) (λ b j. waits (waitOf s i))
       (rw (getD-set-same (s .cores) i (written i) noCore (omega arith), write-wait (getD (s .cores) i noCore) index value))
@@ -117,25 +117,25 @@ module _ (s : State) (i : ℕ) (within : i ≤ 7) (places : length (s .cores) �
 
   waits-after : (c : HostCall) → waits (waitOf (call s c .state) i) ≡ outstandingAfter s i (waits (waitOf s i)) c
   waits-after (build c) = refl
-  waits-after (save core x elr spsr) = save-after x elr spsr core
-  waits-after (trap core registers) = trap-after registers core
-  waits-after (reply core result) = reply-after result core
-  waits-after (write-gpr core index value) = write-after index value core
-  waits-after (insert key value) = refl
-  waits-after (get key) = refl
-  waits-after (remove key) = refl
+  waits-after (core-call (save core x elr spsr)) = save-after x elr spsr core
+  waits-after (core-call (trap core registers)) = trap-after registers core
+  waits-after (core-call (reply core result)) = reply-after result core
+  waits-after (core-call (write-gpr form core index value)) = write-after form index value core
+  waits-after (core-call (insert key value)) = refl
+  waits-after (core-call (get key)) = refl
+  waits-after (core-call (remove key)) = refl
 
 -- every call keeps the number of cores
 pub call-places : (s : State) (c : HostCall) → length (call s c .state .cores) ≡ length (s .cores)
 unfolding saveOn replyOn
 call-places s (build c) = refl
-call-places s (save core x elr spsr) = core-places (s .cores) core _
-call-places s (trap core registers) = trap-places (s .policy) (s .cores) (s .counter) core registers
-call-places s (reply core result) = core-places (s .cores) core _
-call-places s (write-gpr core index value) = length-set (s .cores) core _
-call-places s (insert key value) = refl
-call-places s (get key) = refl
-call-places s (remove key) = refl
+call-places s (core-call (save core x elr spsr)) = core-places (s .cores) core _
+call-places s (core-call (trap core registers)) = trap-places (s .policy) (s .cores) (s .counter) core registers
+call-places s (core-call (reply core result)) = core-places (s .cores) core _
+call-places s (core-call (write-gpr form core index value)) = length-set (s .cores) core _
+call-places s (core-call (insert key value)) = refl
+call-places s (core-call (get key)) = refl
+call-places s (core-call (remove key)) = refl
 
 waits-all : (s : State) (i : ℕ) → i ≤ 7 → length (s .cores) ≡ 8 → (calls : List HostCall)
     → waits (waitOf (callAll s calls) i) ≡ outstanding s i (waits (waitOf s i)) calls

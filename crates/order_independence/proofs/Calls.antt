@@ -23,16 +23,16 @@ use Rattle.exceptions.specs.Registers.{writeGpr, writeNumber}
 use Rattle.data_abort.specs.declared.TrapRegisters.{TrapRegisters}
 use Rattle.data_abort.specs.DataAbort.{handleDataAbort}
 use Rattle.data_abort.proofs.Laws.{abort-refused}
 use Rattle.hypervisor.specs.declared.CoreStep.{CoreStep}
 use Rattle.hypervisor.specs.declared.CoresStep.{CoresStep}
 use Rattle.hypervisor.specs.declared.TrapStep.{TrapStep}
 use Rattle.hypervisor.specs.declared.Trapped.{Trapped}
 use Rattle.hypervisor.specs.Answers.{coreNumber, trapNumber, answered, refused}
 use Rattle.hypervisor.specs.Trap.{ec, exceptionClass, byClass, handleSyncLower}
 use Rattle.hypervisor.specs.Cores.{noCore, saveCore, replyStep, onCore, saveOn, replyOn, trapOn}
-use Rattle.hypervisor.specs.Calls.{State, HostCall, build, save, trap, reply, write-gpr, insert, get, remove, answerNumber, withPolicy, withCores, withMap, call}
+use Rattle.order_independence.specs.Calls.{State, HostCall, build, core-call, save, trap, reply, write-gpr, insert, get, remove, answerNumber, withPolicy, withCores, withMap, call}
 use Rattle.hypervisor.proofs.Laws.{by-class}
 use Rattle.hypervisor.proofs.Refusals.{abort-answer-number, reply-answer-number}
 
 -- One core's calls that are refused leave the core as it was.
 abbrev CoreKept : Core → CoreStep → Type 0
@@ -102,13 +102,13 @@ insert-kept map key value =
 pub refusal-keeps : (s : State) (c : HostCall) → (answerNumber (call s c .answer) ≡ 0 → ⊥) → call s c .state ≡ s
 unfolding saveOn replyOn
 refusal-keeps s (build c) h = ap (withPolicy s) (build-refused (s .policy) c h)
-refusal-keeps s (save core x elr spsr) h =
+refusal-keeps s (core-call (save core x elr spsr)) h =
     ap (withCores s) (on-core-kept (s .cores) core _ (save-kept (getD (s .cores) core noCore) x elr spsr) h)
-refusal-keeps s (trap core registers) h = trap-on-kept s core registers h
-refusal-keeps s (reply core result) h =
+refusal-keeps s (core-call (trap core registers)) h = trap-on-kept s core registers h
+refusal-keeps s (core-call (reply core result)) h =
     ap (withCores s) (on-core-kept (s .cores) core _ (reply-kept (getD (s .cores) core noCore) result) h)
-refusal-keeps s (write-gpr core index value) h =
+refusal-keeps s (core-call (write-gpr form core index value)) h =
     ap (withCores s) (rw (write-kept (getD (s .cores) core noCore) index value h) (set-getD (s .cores) core noCore))
-refusal-keeps s (insert key value) h = ap (withMap s) (insert-kept (s .map) key value h)
-refusal-keeps s (get key) h = refl
-refusal-keeps s (remove key) h = absurd (h refl)
+refusal-keeps s (core-call (insert key value)) h = ap (withMap s) (insert-kept (s .map) key value h)
+refusal-keeps s (core-call (get key)) h = refl
+refusal-keeps s (core-call (remove key)) h = absurd (h refl)

@@ -1,0 +1,3 @@
+-- The host's calls as one, over the whole state, and the claim that their order does not matter.
+pub mod Calls
+pub mod OrderIndependence
