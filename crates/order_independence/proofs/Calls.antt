@@ -1,13 +1,12 @@
 -- Laws over all of the host's calls. Assumes nothing.
 use Prim.Native.Nat.{ℕ}
 use mathlib.Core.Path.{_≡_, refl, _∙_, ap}
-use mathlib.Core.List.{List}
+use mathlib.Core.List.{List, List·Memᴰ·not-nil, Memᴰ·eq-of-replicate}
 use lib.Dec.{eqb, ltb}
 use lib.ListN.{getD}
 use lib.Seq.{set-getD}
 use Rattle.lists.proofs.Laws.{cond-all}
 use Rattle.stage2.specs.Policy.{regionsHeld}
-use Rattle.stage2.specs.Builds as builds
 use Rattle.stage2.proofs.Laws.{build-refused}
 use Rattle.stage2_range.specs.declared.MemoryAccessRegion.{MemoryAccessRegion}
 use Rattle.simple_map.specs.declared.Inserted.{Inserted}
@@ -27,10 +26,12 @@ use Rattle.hypervisor.specs.declared.CoreStep.{CoreStep}
 use Rattle.hypervisor.specs.declared.CoresStep.{CoresStep}
 use Rattle.hypervisor.specs.declared.TrapStep.{TrapStep}
 use Rattle.hypervisor.specs.declared.Trapped.{Trapped}
-use Rattle.hypervisor.specs.Answers.{coreNumber, trapNumber, answered, refused}
+use Rattle.hypervisor.specs.declared.TrapAnswer.{TrapAnswer}
+use Rattle.hypervisor.specs.declared.TrapAnswer.the-variants as trap-answer
+use Rattle.hypervisor.specs.Answers.{coreNumber, trapNumber, trapKind, noValues, answered}
 use Rattle.hypervisor.specs.Trap.{ec, exceptionClass, byClass, handleSyncLower}
 use Rattle.hypervisor.specs.Cores.{noCore, saveCore, replyStep, onCore, saveOn, replyOn, trapOn}
-use Rattle.order_independence.specs.Calls.{State, HostCall, build, core-call, save, trap, reply, write-gpr, insert, get, remove, answerNumber, withPolicy, withCores, withMap, call}
+use Rattle.order_independence.specs.Calls.{State, HostCall, build, core-call, save, trap, reply, write-gpr, insert, get, remove, answerNumber, answerValues, AllZero, withPolicy, withCores, withMap, call}
 use Rattle.hypervisor.proofs.Laws.{by-class}
 use Rattle.hypervisor.proofs.Refusals.{abort-answer-number, reply-answer-number}
 
@@ -46,20 +47,23 @@ reply-kept : (core : Core) (result : HvcReply) → CoreKept core (replyStep (rep
 reply-kept core result h =
     reply-done core result .refused-keeps (λ z. h (reply-answer-number (replyCore core result .answer) ∙ z))
 
+-- a trap that is refused has no value either
 abbrev TrapKept : Core → ℕ → TrapStep → Type 0
-TrapKept core counter s = (trapNumber (s .answer) ≡ 0 → ⊥) → (s .core ≡ core) × (s .counter ≡ counter)
+TrapKept core counter s = (trapNumber (s .answer) ≡ 0 → ⊥) → (s .core ≡ core) × (s .counter ≡ counter) × (s .values ≡ noValues)
 
 step-kept : (regions : List MemoryAccessRegion) (core : Core) (counter : ℕ) (registers : TrapRegisters)
     → TrapKept core counter (handleSyncLower regions core counter registers)
 unfolding handleSyncLower exceptionClass byClass answered
 step-kept regions core counter registers =
-    cond-all (TrapKept core counter) (waits (core .wait)) _ _ (λ h. (refl, refl))
+    cond-all (TrapKept core counter) (waits (core .wait)) _ _ (λ h. (refl, refl, refl))
     (by-class (λ c. TrapKept core counter (byClass c regions core counter registers)) (ec (registers .esr))
     (λ e h. absurd (h refl))
     (λ e h. absurd (h refl))
-    (λ e h. abort-refused regions core counter registers
-    (λ z. h (abort-answer-number (handleDataAbort regions core counter registers .answer) ∙ z)))
-    (λ hvc smc abort h. (refl, refl)))
+    (λ e h.
+    let kept = abort-refused regions core counter registers
+    (λ z. h (abort-answer-number (handleDataAbort regions core counter registers .answer) ∙ z)) in
+    (kept .0, kept .1, refl))
+    (λ hvc smc abort h. (refl, refl, refl)))
 
 -- a step of one of the eight that is refused leaves them all
 on-core-kept : (cores : List Core) (i : ℕ) (step : Core → CoreStep) → CoreKept (getD cores i noCore) (step (getD cores i noCore))
@@ -112,3 +116,32 @@ refusal-keeps s (core-call (write-gpr form core index value)) h =
 refusal-keeps s (core-call (insert key value)) h = ap (withMap s) (insert-kept (s .map) key value h)
 refusal-keeps s (core-call (get key)) h = refl
 refusal-keeps s (core-call (remove key)) h = absurd (h refl)
+
+-- a trap that is refused has no kind
+refused-kind : (a : TrapAnswer) → (trapNumber a ≡ 0 → ⊥) → trapKind a ≡ 0
+refused-kind (trap-answer.AccessHandled kind) h = absurd (h refl)
+refused-kind trap-answer.AbortInjected h = absurd (h refl)
+refused-kind (trap-answer.Forwarded recipient) h = absurd (h refl)
+refused-kind (trap-answer.Refused error) h = refl
+
+trap-on-values : (s : State) (core : ℕ) (registers : TrapRegisters) →
+    let t = trapOn (s .policy) (s .cores) (s .counter) core registers in
+    (trapNumber (t .answer) ≡ 0 → ⊥) → t .values ≡ noValues
+unfolding trapOn
+trap-on-values s core registers =
+    cond-all (λ (t : Trapped). (trapNumber (t .answer) ≡ 0 → ⊥) → t .values ≡ noValues) (ltb 7 core) _ _
+    (λ h. refl)
+    (λ h. step-kept (regionsHeld (s .policy)) (getD (s .cores) core noCore) (s .counter) registers h .2)
+
+-- "A refusal returns its number with every other result field 0"
+pub refusal-zero : (s : State) (c : HostCall) → (answerNumber (call s c .answer) ≡ 0 → ⊥) → AllZero (answerValues (call s c .answer))
+refusal-zero s (build c) h v m = absurd (List·Memᴰ·not-nil m)
+refusal-zero s (core-call (save core x elr spsr)) h v m = absurd (List·Memᴰ·not-nil m)
+refusal-zero s (core-call (trap core registers)) h v m =
+    let t = trapOn (s .policy) (s .cores) (s .counter) core registers in
+    Memᴰ·eq-of-replicate 19 (rw (refused-kind (t .answer) h, trap-on-values s core registers h) at m)
+refusal-zero s (core-call (reply core result)) h v m = absurd (List·Memᴰ·not-nil m)
+refusal-zero s (core-call (write-gpr form core index value)) h v m = absurd (List·Memᴰ·not-nil m)
+refusal-zero s (core-call (insert key value)) h v m = absurd (List·Memᴰ·not-nil m)
+refusal-zero s (core-call (get key)) h v m = absurd (h refl)
+refusal-zero s (core-call (remove key)) h v m = absurd (h refl)

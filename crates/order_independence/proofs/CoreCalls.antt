@@ -1,21 +1,20 @@
 -- The core steps as a system of eight cores with one counter: each core sees its record and the entry under its key. Assumes nothing.
-use Prim.Native.Nat.{ℕ, _+_, _%_, _^_, _≤_, _<_}
+use Prim.Native.Nat.{ℕ, _+_, _%_, _^_, _<_}
 use mathlib.Core.Path.{_≡_, refl, sym, _∙_, ap}
 use mathlib.Core.Bool.{Bool, true, false}
 use mathlib.Core.List.{List}
 use mathlib.Core.Logic.{_⊎_, inl, inr}
 use native.Mathlib.Omega.{arith}
-use borrow.Author.Tests.{lt-ltb, ltb-true, ltb-false, eqb-true, eqb-false, eq-eqb}
-use lib.Dec.{eqb, ltb}
-use lib.ListN.{length, getD, set}
+use borrow.Author.Tests.{ltb-false, eqb-true, eqb-false, eq-eqb}
+use lib.Dec.{ltb}
+use lib.ListN.{getD}
 use lib.Seq.{getD-set-same, getD-set-other}
 use Rattle.stage2_range.specs.declared.MemoryAccessRegion.{MemoryAccessRegion}
 use Rattle.stage2.specs.Policy.{regionsHeld}
 use Rattle.simple_map.specs.declared.Lookup.{Lookup}
 use Rattle.simple_map.specs.declared.Lookup.the-variants.{Nothing, Value}
 use Rattle.simple_map.specs.declared.Insertion.the-variants.{Accepted}
-use Rattle.simple_map.specs.declared.SuspendCoreData.{SuspendCoreData}
-use Rattle.simple_map.specs.Map.{getItem, removeItem, insertItem}
+use Rattle.simple_map.specs.Map.{getItem, removeItem}
 use Rattle.simple_map.specs.Keys.{KeysDiffer, HoldsKeys}
 use Rattle.simple_map.proofs.Keys.{get-removed-other, get-inserted-other, remove-holds, get-removed, insert-accepted, insert-holds, get-inserted}
 use Rattle.exceptions.specs.declared.Core.{Core}
@@ -29,7 +28,7 @@ use Rattle.hypervisor.specs.Cores.{noCore, saveCore, replyStep, onCore, saveOn,
 use Rattle.hypervisor.proofs.Steps.{trap-step, trap-others, trap-policy, core-step, core-others}
 use Rattle.hypervisor.proofs.CounterWord.{StepLoads, step-loads, step-steady}
 use Rattle.order_independence.specs.Calls.{State, CoreCall, save, trap, reply, write-gpr, insert, get, remove, core-call, Answer, stepped, trapped, written, inserted, looked-up, coreCall}
-use Rattle.order_independence.specs.OrderIndependence.{isOwn, IsKey, Named, Sound}
+use Rattle.order_independence.specs.OrderIndependence.{isOwn, Named, Sound}
 use Rattle.order_independence.proofs.Mixing.{Acted, System, Laws}
 use Rattle.order_independence.proofs.Waiting.{call-places}
 
@@ -54,7 +53,25 @@ trap-above : (s : State) (core : ℕ) (registers : TrapRegisters) → ltb 7 core
 unfolding trapOn
 trap-above s core registers h = rw h
 
-module _ (key : ℕ → ℕ) (differ : KeysDiffer key) (regions : List MemoryAccessRegion) where
+module _ (key : ℕ → ℕ) (differ : KeysDiffer key) where
+  -- the suspend map holds the eight keys, each at most once, after every step
+  map-holds : (s : State) (c : CoreCall) → HoldsKeys key (s .map) → Named key c → HoldsKeys key (coreCall s c .state .map)
+  map-holds s (save core x elr spsr) h n = h
+  map-holds s (trap core registers) h n = h
+  map-holds s (reply core result) h n = h
+  map-holds s (write-gpr form core index value) h n = h
+  map-holds s (insert k value) h (i, within, e) = rw e (insert-holds key differ (s .map) h i within value)
+  map-holds s (get k) h n = h
+  map-holds s (remove k) h (i, within, e) = rw e (remove-holds key differ (s .map) h i within)
+
+  pub sound-next : (s : State) (c : CoreCall) → Sound key s → Named key c → Sound key (coreCall s c .state)
+  sound-next s c sound n = record {
+    well-formed = rw (core-policy s c) (sound .well-formed);
+    eight = call-places s (core-call c) ∙ sound .eight;
+    holds = map-holds s c (sound .holds) n;
+  }
+
+module _ (key : ℕ → ℕ) (regions : List MemoryAccessRegion) where
   -- what a step comes to, by the held regions, its core's part and the counter
   abbrev act : CoreCall → Part → ℕ → Acted Part Answer
   act (save core x elr spsr) l counter =
@@ -91,22 +108,10 @@ module _ (key : ℕ → ℕ) (differ : KeysDiffer key) (regions : List MemoryAcc
     Named = Named key;
   }
 
-  -- the suspend map holds the eight keys, each at most once, after every step
-  map-holds : (s : State) (c : CoreCall) → HoldsKeys key (s .map) → Named key c → HoldsKeys key (coreCall s c .state .map)
-  map-holds s (save core x elr spsr) h n = h
-  map-holds s (trap core registers) h n = h
-  map-holds s (reply core result) h n = h
-  map-holds s (write-gpr form core index value) h n = h
-  map-holds s (insert k value) h (i, within, e) = rw e (insert-holds key differ (s .map) h i within value)
-  map-holds s (get k) h n = h
-  map-holds s (remove k) h (i, within, e) = rw e (remove-holds key differ (s .map) h i within)
-
-  pub sound-next : (s : State) (c : CoreCall) → Sound key s → Named key c → Sound key (coreCall s c .state)
-  sound-next s c sound n = record {
-    well-formed = rw (core-policy s c) (sound .well-formed);
-    eight = call-places s (core-call c) ∙ sound .eight;
-    holds = map-holds s c (sound .holds) n;
-  }
+-- The laws of a system hold of it.
+module _ (key : ℕ → ℕ) (differ : KeysDiffer key) (regions : List MemoryAccessRegion) where
+  abbrev M : System
+  M = coreSystem key regions
 
   -- an own step that goes by the core's number
   core-local : (s : State) (i : ℕ) (step : Core → CoreStep) → i < 8 → Sound key s
@@ -132,7 +137,7 @@ module _ (key : ℕ → ℕ) (differ : KeysDiffer key) (regions : List MemoryAcc
         part = record { core = getD (t .cores) i noCore; entry = getItem (s .map) (key i) };
         counter = t .counter;
       })
-      (act (trap i registers) (record { core = getD (s .cores) i noCore; entry = getItem (s .map) (key i) }) (s .counter))
+      (M .act (trap i registers) (record { core = getD (s .cores) i noCore; entry = getItem (s .map) (key i) }) (s .counter))
   trap-local s i registers h sound same =
       ap
       (λ (t : TrapStep).
@@ -144,10 +149,10 @@ module _ (key : ℕ → ℕ) (differ : KeysDiffer key) (regions : List MemoryAcc
       (trap-step (s .policy) (s .cores) (s .counter) i registers (omega arith) (sound .eight)
       ∙ ap (λ r. handleSyncLower r (getD (s .cores) i noCore) (s .counter) registers) same)
 
-  local : (s : State) (c : CoreCall) (i : ℕ) → coreSystem .Sound s → Named key c → i < 8 → isOwn key i c ≡ true
+  local : (s : State) (c : CoreCall) (i : ℕ) → M .Sound s → Named key c → i < 8 → isOwn key i c ≡ true
       → _≡_ {A = Acted Part Answer}
-      (record { answer = coreCall s c .answer; part = coreSystem .part i (coreCall s c .state); counter = coreCall s c .state .counter })
-      (act c (coreSystem .part i s) (s .counter))
+      (record { answer = coreCall s c .answer; part = M .part i (coreCall s c .state); counter = coreCall s c .state .counter })
+      (M .act c (M .part i s) (s .counter))
   unfolding saveOn replyOn removeItem
   local s (save core x elr spsr) i (sound, same) n h o = rw (eqb-true core i o) (core-local s i _ h sound)
   local s (trap core registers) i (sound, same) n h o = rw (eqb-true core i o) (trap-local s i registers h sound same)
@@ -163,8 +168,8 @@ module _ (key : ℕ → ℕ) (differ : KeysDiffer key) (regions : List MemoryAcc
   local s (get k) i (sound, same) n h o = rw (eqb-true k (key i) o)
   local s (remove k) i (sound, same) n h o = rw (eqb-true k (key i) o, get-removed key differ (s .map) (sound .holds) i h)
 
-  others : (s : State) (c : CoreCall) (i : ℕ) → coreSystem .Sound s → Named key c → i < 8 → isOwn key i c ≡ false
-      → coreSystem .part i (coreCall s c .state) ≡ coreSystem .part i s
+  others : (s : State) (c : CoreCall) (i : ℕ) → M .Sound s → Named key c → i < 8 → isOwn key i c ≡ false
+      → M .part i (coreCall s c .state) ≡ M .part i s
   unfolding saveOn replyOn
   others s (save core x elr spsr) i v n h o = rw (core-others (s .cores) core _ i (λ z. eqb-false core i o (sym z)))
   others s (trap core registers) i v n h o =
@@ -201,8 +206,8 @@ module _ (key : ℕ → ℕ) (differ : KeysDiffer key) (regions : List MemoryAcc
       let grown : handleSyncLower regions core k registers .counter ≡ (k + 1) % 2 ^ 64 = ap (λ (t : TrapStep). t .counter) (step-loads regions core registers k l) in
       omega arith
 
-  steady : (c : CoreCall) (l : Part) (k k′ : ℕ) → act c l k .counter ≡ k
-      → act c l k′ ≡ record { answer = act c l k .answer; part = act c l k .part; counter = k′ }
+  steady : (c : CoreCall) (l : Part) (k k′ : ℕ) → M .act c l k .counter ≡ k
+      → M .act c l k′ ≡ record { answer = M .act c l k .answer; part = M .act c l k .part; counter = k′ }
   steady (save core x elr spsr) l k k′ e = refl
   steady (trap core registers) l k k′ e =
       ap
@@ -215,9 +220,9 @@ module _ (key : ℕ → ℕ) (differ : KeysDiffer key) (regions : List MemoryAcc
   steady (get j) l k k′ e = refl
   steady (remove j) l k k′ e = refl
 
-  pub core-laws : Laws coreSystem
+  pub core-laws : Laws (coreSystem key regions)
   core-laws = record {
-    keeps = λ s c v n. (sound-next s c (v .0) n, ap regionsHeld (core-policy s c) ∙ v .1);
+    keeps = λ s c v n. (sound-next key differ s c (v .0) n, ap regionsHeld (core-policy s c) ∙ v .1);
     local = local;
     others = others;
     owned = owned;

@@ -1,6 +1,8 @@
--- Laws over lists of the host's calls.
+-- Laws over the host's calls and over lists of them, and demand 3.
 pub mod Calls
 pub mod Waiting
 pub mod Mixing
 pub mod CoreCalls
+pub mod Counter
+pub mod Runs
 pub mod OrderIndependence

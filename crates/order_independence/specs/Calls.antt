@@ -1,7 +1,8 @@
 -- The host's calls as one, over the whole state. Assumes nothing.
 use Prim.Native.Nat.{ℕ}
+use mathlib.Core.Path.{_≡_}
 use mathlib.Core.Bool.{Bool, true, false, _&&_, cond}
-use mathlib.Core.List.{List, [], _∷_, foldl}
+use mathlib.Core.List.{List, [], _∷_, foldl, List·Memᴰ}
 use lib.Dec.{eqb}
 use lib.ListN.{getD, set}
 use Rattle.stage2_range.specs.declared.Stage2Result.{Stage2Result}
@@ -13,7 +14,7 @@ use Rattle.simple_map.specs.declared.SimpleMap.{SimpleMap}
 use Rattle.simple_map.specs.declared.SuspendCoreData.{SuspendCoreData}
 use Rattle.simple_map.specs.declared.Insertion.{Insertion}
 use Rattle.simple_map.specs.declared.Lookup.{Lookup}
-use Rattle.simple_map.specs.Map.{emptyMap, getItem, removeItem, insertItem, insertNumber}
+use Rattle.simple_map.specs.Map.{emptyMap, getItem, removeItem, insertItem, insertNumber, lookupValues}
 use Rattle.exceptions.specs.declared.Core.{Core}
 use Rattle.exceptions.specs.declared.GprWrite.{GprWrite}
 use Rattle.exceptions.specs.declared.Wait.{Wait}
@@ -23,7 +24,7 @@ use Rattle.forwarded_call.specs.declared.HvcReply.{HvcReply}
 use Rattle.hypervisor.specs.declared.CoreAnswer.{CoreAnswer}
 use Rattle.hypervisor.specs.declared.TrapAnswer.{TrapAnswer}
 use Rattle.hypervisor.specs.declared.TrapAnswer.the-variants as trap-answer
-use Rattle.hypervisor.specs.Answers.{coreNumber, trapNumber}
+use Rattle.hypervisor.specs.Answers.{coreNumber, trapNumber, trapKind}
 use Rattle.hypervisor.specs.Cores.{noCore, freshCores, saveOn, replyOn, trapOn}
 
 -- the state that calls are given and hand back
@@ -76,6 +77,20 @@ answerNumber (written answer) = writeNumber answer
 answerNumber (inserted answer) = insertNumber answer
 answerNumber (looked-up answer) = 0
 
+-- its other result fields: a trap's kind and values, what a look-up or a remove found
+abbrev pub answerValues : Answer → List ℕ
+answerValues (built answer) = []
+answerValues (stepped answer) = []
+answerValues (trapped answer values) = trapKind answer ∷ values
+answerValues (written answer) = []
+answerValues (inserted answer) = []
+answerValues (looked-up answer) = lookupValues answer
+
+-- "A refusal returns its number with every other result field 0"
+abbrev pub AllZero : List ℕ → Type 0
+AllZero values = (v : ℕ) → List·Memᴰ v values → v ≡ 0
+
+-- what a call comes to: its answer, and the state handed back
 pub record Called : Type 0 where
   pub answer : Answer
   pub state : State
