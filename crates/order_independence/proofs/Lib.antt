@@ -6,3 +6,5 @@ pub mod CoreCalls
 pub mod Counter
 pub mod Runs
 pub mod OrderIndependence
+pub mod Needed
+pub mod Computed

@@ -1,0 +1,88 @@
+-- A pair of runs, computed: two mixings of the steps of three cores end the same. Each system that the must-fail edits make differs here.
+-- Assumes nothing.
+use Prim.Native.Nat.{ℕ, _+_}
+use mathlib.Core.Path.{_≡_, refl}
+use mathlib.Core.List.{List, [], _∷_}
+use lib.ListN.{replicate}
+use Rattle.lists.specs.Lists.{held}
+use Rattle.memory_access.specs.Syndrome.{bitsAt, bitAt, faultIpa, decodeAccess}
+use Rattle.memory_access.specs.Transfer.{lowBits, signExtend, loaded, atRegisterWidth, extendReadResult}
+use Rattle.stage2_range.specs.Ranges.{validateRange, sharesByte, overlapsAllowed}
+use Rattle.stage2_range.specs.Registry as registry
+use Rattle.stage2_range.specs.Registry.{overlapsRegions, findRegion, insertRegion, registerAnswer}
+use Rattle.stage2.specs.Policy.{freshPolicy, handleAnswerFor, withRegion, handleRange}
+use Rattle.simple_map.specs.declared.SuspendCoreData.{SuspendCoreData}
+use Rattle.simple_map.specs.Map.{fits, valueOf, emptyMap, without, getItem, hasRoom, removeItem, insertItem}
+use Rattle.exceptions.specs.Registers.{freshCore, withRegisters, advancePc, writeGpr}
+use Rattle.qemu.specs.FilteredMmio.{wordAt, loadsCounter, counterAfter, readFilteredMmio}
+use Rattle.data_abort.specs.declared.TrapRegisters.{TrapRegisters}
+use Rattle.data_abort.specs.DataAbort.{readThrough, accessIn, tryMemoryAccess, withEc, injected, injectDataAbort, handleDataAbort}
+use Rattle.forwarded_call.specs.ForwardedCall.{recipientOf, withWait, forwardCall}
+use Rattle.hypervisor.specs.Answers.{answered}
+use Rattle.hypervisor.specs.Trap.{exceptionClass, byClass, handleSyncLower}
+use Rattle.hypervisor.specs.Cores.{noCore, freshCores, saveCore, onCore, saveOn, trapOn}
+use Rattle.order_independence.specs.Calls.{freshState, lent, CoreCall, save, trap, write-gpr, insert, get, remove, Answer, afterSteps, answersTo}
+use Rattle.order_independence.specs.OrderIndependence.{isOwn}
+use Rattle.order_independence.proofs.Needed.{page, load}
+
+-- a load of 32 bits at 16, which faults; a call by HVC
+abbrev narrow : TrapRegisters
+narrow = record { esr = 0x93858000; fipa = record { 0 = 0xF000 }; far = 0x10; vbar = 0x80000 }
+
+abbrev hvc : TrapRegisters
+hvc = record { esr = 0x5A000000; fipa = record { 0 = 0 }; far = 0; vbar = 0 }
+
+abbrev entry : ℕ → SuspendCoreData
+entry n = record { «entry_point» = n; «context_id» = n }
+
+abbrev key : ℕ → ℕ
+key i = 100 + i
+
+-- core 0 is saved and loads the counter word, core 1 calls, core 2 faults; cores 0 and 1 have an entry, and core 0 removes its own
+abbrev pub first : List CoreCall
+first =
+    save 0 (replicate 31 7) 8 9
+    ∷ trap 1 hvc
+    ∷ trap 2 narrow
+    ∷ insert 101 (entry 1)
+    ∷ insert 100 (entry 0)
+    ∷ trap 0 load
+    ∷ remove 100
+    ∷ write-gpr lent 0 6 1
+    ∷ write-gpr lent 2 6 2
+    ∷ get 101
+    ∷ []
+
+-- the same steps, each core's own in its own order
+abbrev pub second : List CoreCall
+second =
+    trap 1 hvc
+    ∷ save 0 (replicate 31 7) 8 9
+    ∷ insert 100 (entry 0)
+    ∷ trap 0 load
+    ∷ remove 100
+    ∷ insert 101 (entry 1)
+    ∷ trap 2 narrow
+    ∷ write-gpr lent 2 6 2
+    ∷ get 101
+    ∷ write-gpr lent 0 6 1
+    ∷ []
+
+-- what core `i` answers in a run
+abbrev said : ℕ → List CoreCall → List Answer
+said i steps = answersTo (isOwn key i) page steps
+
+pub computed : (afterSteps page first .cores ≡ afterSteps page second .cores)
+    × (afterSteps page first .counter ≡ 1)
+    × (afterSteps page second .counter ≡ 1)
+    × (getItem (afterSteps page first .map) 101 ≡ getItem (afterSteps page second .map) 101)
+    × (said 0 first ≡ said 0 second)
+    × (said 1 first ≡ said 1 second)
+    × (said 2 first ≡ said 2 second)
+unfolding
+    held bitsAt bitAt faultIpa decodeAccess lowBits signExtend loaded atRegisterWidth extendReadResult validateRange sharesByte
+    overlapsAllowed registry.fits overlapsRegions findRegion insertRegion registerAnswer freshPolicy handleAnswerFor withRegion handleRange
+    fits valueOf emptyMap without getItem hasRoom removeItem insertItem freshState freshCore withRegisters advancePc writeGpr wordAt
+    loadsCounter counterAfter readFilteredMmio readThrough accessIn tryMemoryAccess withEc injected injectDataAbort handleDataAbort
+    recipientOf withWait forwardCall answered exceptionClass byClass handleSyncLower noCore freshCores saveCore onCore saveOn trapOn
+computed = (refl, refl, refl, refl, refl, refl, refl)

@@ -1,0 +1,74 @@
+-- Why the claim asks what it asks: runs that end differently where one of its hypotheses does not hold, by computation. Assumes nothing.
+use Prim.Native.Nat.{ℕ}
+use mathlib.Core.Path.{_≡_, refl, sym, ap}
+use mathlib.Core.List.{List, [], _∷_, map}
+use native.Mathlib.Omega.{arith}
+use lib.ListN.{getD}
+use Rattle.lists.specs.Lists.{held}
+use Rattle.memory_access.specs.Syndrome.{bitsAt, bitAt, faultIpa, decodeAccess}
+use Rattle.memory_access.specs.Transfer.{lowBits, signExtend, loaded, atRegisterWidth, extendReadResult}
+use Rattle.stage2_range.specs.Ranges.{validateRange, sharesByte, overlapsAllowed}
+use Rattle.stage2_range.specs.Registry as registry
+use Rattle.stage2_range.specs.Registry.{overlapsRegions, findRegion, insertRegion, registerAnswer}
+use Rattle.stage2.specs.Policy.{freshPolicy, allowAnswerFor, withAllowed, allowRange, handleAnswerFor, withRegion, handleRange}
+use Rattle.stage2.specs.Builds.{handle}
+use Rattle.simple_map.specs.declared.SuspendCoreData.{SuspendCoreData}
+use Rattle.simple_map.specs.declared.Insertion.the-variants.{Accepted, CapacityExceeded}
+use Rattle.simple_map.specs.Map.{fits, valueOf, emptyMap, without, getItem, hasRoom, insertItem, lookupValues}
+use Rattle.exceptions.specs.Registers.{freshCore, withRegisters, advancePc, writeGpr}
+use Rattle.qemu.specs.FilteredMmio.{wordAt, loadsCounter, counterAfter, readFilteredMmio}
+use Rattle.data_abort.specs.declared.TrapRegisters.{TrapRegisters}
+use Rattle.data_abort.specs.DataAbort.{readThrough, accessIn, tryMemoryAccess, handleDataAbort}
+use Rattle.hypervisor.specs.Answers.{answered}
+use Rattle.hypervisor.specs.Trap.{exceptionClass, byClass, handleSyncLower}
+use Rattle.hypervisor.specs.Cores.{noCore, freshCores, trapOn}
+use Rattle.order_independence.specs.Calls.{State, freshState, by-value, CoreCall, trap, write-gpr, insert, Answer, inserted, afterBuilds, afterSteps, answersTo}
+use Rattle.order_independence.specs.OrderIndependence.{isOwn, Same}
+
+-- a state with the filtered MMIO page, and a 64-bit load of its word at 16 into x5
+abbrev pub page : State
+page = afterBuilds freshState (handle 0x0F000000 4096 1 1 ∷ [])
+
+abbrev pub load : TrapRegisters
+load = record { esr = 0x93C58000; fipa = record { 0 = 0xF000 }; far = 0x10; vbar = 0 }
+
+-- Two cores that both load the counter word: the first finds 0, the second 1.
+pub two-loaders : (key : ℕ → ℕ)
+    → Same key (afterSteps page (trap 0 load ∷ trap 1 load ∷ [])) (afterSteps page (trap 1 load ∷ trap 0 load ∷ [])) → ⊥
+unfolding
+    held bitsAt bitAt faultIpa decodeAccess lowBits signExtend loaded atRegisterWidth extendReadResult validateRange sharesByte
+    overlapsAllowed registry.fits overlapsRegions findRegion insertRegion registerAnswer freshPolicy allowAnswerFor withAllowed allowRange
+    handleAnswerFor withRegion handleRange freshState freshCore withRegisters advancePc writeGpr wordAt loadsCounter counterAfter
+    readFilteredMmio readThrough accessIn tryMemoryAccess handleDataAbort answered exceptionClass byClass handleSyncLower freshCores trapOn
+two-loaders key same =
+    let e : _≡_ {A = ℕ} 0 1 = ap (λ cores. getD (getD cores 0 noCore .x) 5 9) (same .all-cores) in
+    omega arith
+
+-- One core's own steps in another order: the last write stays.
+pub own-steps-swapped : (key : ℕ → ℕ)
+    → Same key (afterSteps freshState (write-gpr by-value 0 5 1 ∷ write-gpr by-value 0 5 2 ∷ []))
+    (afterSteps freshState (write-gpr by-value 0 5 2 ∷ write-gpr by-value 0 5 1 ∷ [])) → ⊥
+unfolding freshState freshCores freshCore writeGpr withRegisters
+own-steps-swapped key same =
+    let e : _≡_ {A = ℕ} 2 1 = ap (λ cores. getD (getD cores 0 noCore .x) 5 9) (same .all-cores) in
+    omega arith
+
+-- Two cores with one key: what either finds is what was inserted last. (Steps that name one key are one core's own, and keep their order.)
+pub one-key : (first second : SuspendCoreData) → (first .«entry_point» ≡ second .«entry_point» → ⊥)
+    → getItem (afterSteps freshState (insert 7 first ∷ insert 7 second ∷ []) .map) 7
+    ≡ getItem (afterSteps freshState (insert 7 second ∷ insert 7 first ∷ []) .map) 7 → ⊥
+unfolding freshState emptyMap fits valueOf without getItem hasRoom insertItem
+one-key first second differ same = differ (ap (λ l. getD (lookupValues l) 0 0) (sym same))
+
+-- A key that is no core's: the ninth of nine keys is refused, whichever it is.
+abbrev pub inserts : List ℕ → List CoreCall
+inserts keys = map (λ k. insert k (record { «entry_point» = 0; «context_id» = 0 })) keys
+
+-- what the insert under key 8 answers
+abbrev pub key-8 : List CoreCall → List Answer
+key-8 steps = answersTo (isOwn (λ i. i) 8) freshState steps
+
+pub ninth-key : (key-8 (inserts (0 ∷ 1 ∷ 2 ∷ 3 ∷ 4 ∷ 5 ∷ 6 ∷ 7 ∷ 8 ∷ [])) ≡ inserted CapacityExceeded ∷ [])
+    × (key-8 (inserts (8 ∷ 0 ∷ 1 ∷ 2 ∷ 3 ∷ 4 ∷ 5 ∷ 6 ∷ 7 ∷ [])) ≡ inserted Accepted ∷ [])
+unfolding freshState emptyMap fits valueOf without getItem hasRoom insertItem
+ninth-key = (refl, refl)
