@@ -145,3 +145,24 @@ impl Core {
         }
     }
 }
+
+// The same on a core record that is lent: the record is copied out, written by value and put back.
+pub fn write_gpr_lent(core: &mut Core, index: usize, value: u64) -> GprWrite
+    ensures { λ r. ⌜ (r ≡ writeGpr (now (core .entry)) index value .answer)
+        × (now (core .exit) ≡ writeGpr (now (core .entry)) index value .core) ⌝ }
+{
+    let before = *core;
+    let written = before.write_gpr(index, value);
+    let after = written.core;
+    *core = after;
+    written.answer
+}
+
+// The lent form on a record of one's own: its callers hold no reference to a struct.
+pub fn write_gpr_by_loan(core: Core, index: usize, value: u64) -> GprWritten
+    ensures { λ r. ⌜ r ≡ writeGpr core index value ⌝ }
+{
+    let mut lent = core;
+    let answer = write_gpr_lent(&mut lent, index, value);
+    GprWritten { answer, core: lent }
+}

@@ -22,7 +22,7 @@ use Rattle.hypervisor.specs.Answers.{answered}
 use Rattle.hypervisor.specs.Trap.{exceptionClass, byClass, handleSyncLower}
 use Rattle.hypervisor.specs.Cores.{noCore, freshCores, saveCore, onCore, saveOn, trapOn}
 use Rattle.order_independence.specs.Calls.{freshState, lent, CoreCall, save, trap, write-gpr, insert, get, remove, Answer, afterSteps, answersTo}
-use Rattle.order_independence.specs.OrderIndependence.{isOwn}
+use Rattle.order_independence.specs.Steps.{isOwn}
 use Rattle.order_independence.proofs.Needed.{page, load}
 
 -- a load of 32 bits at 16, which faults; a call by HVC

@@ -28,7 +28,8 @@ use Rattle.hypervisor.specs.Cores.{noCore, saveCore, replyStep, onCore, saveOn,
 use Rattle.hypervisor.proofs.Steps.{trap-step, trap-others, trap-policy, core-step, core-others}
 use Rattle.hypervisor.proofs.CounterWord.{StepLoads, step-loads, step-steady}
 use Rattle.order_independence.specs.Calls.{State, CoreCall, save, trap, reply, write-gpr, insert, get, remove, core-call, Answer, stepped, trapped, written, inserted, looked-up, coreCall}
-use Rattle.order_independence.specs.OrderIndependence.{isOwn, Named, Sound}
+use Rattle.order_independence.specs.Steps.{isOwn, Named}
+use Rattle.order_independence.specs.OrderIndependence.{Sound}
 use Rattle.order_independence.proofs.Mixing.{Acted, System, Laws}
 use Rattle.order_independence.proofs.Waiting.{call-places}
 

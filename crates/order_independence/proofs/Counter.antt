@@ -6,7 +6,8 @@ use borrow.Author.Tests.{eqb-true}
 use Rattle.hypervisor.specs.declared.Trapped.{Trapped}
 use Rattle.hypervisor.proofs.CounterWord.{word-loaded, counter-left}
 use Rattle.order_independence.specs.Calls.{State, CoreCall, save, trap, reply, write-gpr, insert, get, remove, coreCall}
-use Rattle.order_independence.specs.OrderIndependence.{isOwn, LoadsBy, Sound}
+use Rattle.order_independence.specs.Steps.{isOwn, LoadsBy}
+use Rattle.order_independence.specs.OrderIndependence.{Sound}
 
 -- by 1 modulo 2^64 where one does
 pub counter-grows : (key : ℕ → ℕ) (s : State) (i : ℕ) (c : CoreCall) → Sound key s → LoadsBy s i c

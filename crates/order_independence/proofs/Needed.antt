@@ -23,7 +23,8 @@ use Rattle.hypervisor.specs.Answers.{answered}
 use Rattle.hypervisor.specs.Trap.{exceptionClass, byClass, handleSyncLower}
 use Rattle.hypervisor.specs.Cores.{noCore, freshCores, trapOn}
 use Rattle.order_independence.specs.Calls.{State, freshState, by-value, CoreCall, trap, write-gpr, insert, Answer, inserted, afterBuilds, afterSteps, answersTo}
-use Rattle.order_independence.specs.OrderIndependence.{isOwn, Same}
+use Rattle.order_independence.specs.Steps.{isOwn}
+use Rattle.order_independence.specs.OrderIndependence.{Same}
 
 -- a state with the filtered MMIO page, and a 64-bit load of its word at 16 into x5
 abbrev pub page : State

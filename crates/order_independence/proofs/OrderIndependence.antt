@@ -15,7 +15,8 @@ use Rattle.stage2.proofs.Order.{any-order}
 use Rattle.simple_map.specs.Keys.{KeysDiffer}
 use Rattle.hypervisor.specs.Cores.{noCore}
 use Rattle.order_independence.specs.Calls.{State, freshState, CoreCall, coreCall, afterBuilds, afterSteps}
-use Rattle.order_independence.specs.OrderIndependence.{Named, Loads, Same, OrderIndependentFrom, OrderIndependent, Sound}
+use Rattle.order_independence.specs.Steps.{Named, Loads}
+use Rattle.order_independence.specs.OrderIndependence.{Same, OrderIndependentFrom, OrderIndependent, Sound}
 use Rattle.order_independence.proofs.Mixing.{Moves, mixed}
 use Rattle.order_independence.proofs.CoreCalls.{Part, coreSystem, core-laws}
 use Rattle.order_independence.proofs.Counter.{counter-kept, own-load}

@@ -13,7 +13,8 @@ use Rattle.simple_map.proofs.Keys.{empty-holds, insert-accepted}
 use Rattle.hypervisor.specs.Cores.{freshCores}
 use Rattle.hypervisor.proofs.Refusals.{save-number, reply-number, trap-number}
 use Rattle.order_independence.specs.Calls.{State, freshState, CoreCall, save, trap, reply, write-gpr, insert, get, remove, core-call, Answer, answerNumber, answerValues, AllZero, coreCall, afterBuilds, afterSteps, answersTo}
-use Rattle.order_independence.specs.OrderIndependence.{isAbove, isInsert, Named, AllNamed, AboveAnswer10, Same, Sound}
+use Rattle.order_independence.specs.Steps.{isAbove, isInsert, Named, AllNamed}
+use Rattle.order_independence.specs.OrderIndependence.{AboveAnswer10, Same, Sound}
 use Rattle.order_independence.proofs.Calls.{refusal-zero}
 use Rattle.order_independence.proofs.CoreCalls.{core-policy, sound-next}
 
@@ -35,6 +36,11 @@ sound-steps key differ [] s sound named = sound
 sound-steps key differ (c ∷ cs) s sound named =
     sound-steps key differ cs (coreCall s c .state) (sound-next key differ s c sound (named c (List·Memᴰ·head refl)))
     (λ d m. named d (List·Memᴰ·tail m))
+
+-- so where one run ends another can begin
+pub sound-run : (key : ℕ → ℕ) → KeysDiffer key → (s : State) (calls : List BuilderCall) (steps : List CoreCall) → Sound key s
+    → AllNamed key steps → Sound key (afterSteps (afterBuilds s calls) steps)
+sound-run key differ s calls steps sound = sound-steps key differ steps (afterBuilds s calls) (sound-builds key s calls sound)
 
 -- a list of core steps leaves the policy
 pub steps-policy : (steps : List CoreCall) (s : State) → afterSteps s steps .policy ≡ s .policy

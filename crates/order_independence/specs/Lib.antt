@@ -1,3 +1,4 @@
 -- The host's calls as one, over the whole state, and the claim that their order does not matter.
 pub mod Calls
+pub mod Steps
 pub mod OrderIndependence

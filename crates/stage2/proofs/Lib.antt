@@ -2,3 +2,5 @@
 pub mod Laws
 pub mod WellFormed
 pub mod Order
+-- Machine values that the walks of this crate cite.
+mod Values

@@ -1,11 +1,13 @@
 // RITM's src/stage2.rs, the builder: which ranges the guest may use directly, and which have their accesses handled.
 ghost use mathlib.Core.Path.{_≡_};
+ghost use mathlib.Core.List.{[], _∷_};
 ghost use Rattle.stage2_range.specs.declared.Stage2Result.the-variants.{Refused};
 ghost use Rattle.stage2_range.specs.Registry.{findRegion};
 ghost use Rattle.stage2.specs.Policy.{handlerOf, freshPolicy, regionsHeld, builtBy, allowAnswerFor, withAllowed, allowRange, handleAnswerFor, withRegion, handleRange};
 use memory_access::Ipa;
 use stage2_range::MAX_ALLOWED_RANGES;
 use stage2_range::MemoryAccessHandler;
+use stage2_range::MemoryAccessHandlerMatch;
 use stage2_range::MemoryAccessRegion;
 use stage2_range::MemoryHandler;
 use stage2_range::RegionFound;
@@ -187,4 +189,43 @@ fn handle_valid(policy: Policy, region: MemoryAccessRegion) -> Built
             region_count: registered.region_count,
         },
     }
+}
+
+// The region, if it has the address, and the offset in it.
+fn find_here(region: MemoryAccessRegion, ipa: Ipa) -> RegionFound
+    ensures { λ r. ⌜ r ≡ findRegion (region ∷ []) ipa ⌝ }
+{
+    let address = ipa.0;
+    if address < region.base_ipa {
+        return RegionFound::Nothing;
+    }
+    if region.end_ipa <= address {
+        return RegionFound::Nothing;
+    }
+    RegionFound::Match(MemoryAccessHandlerMatch {
+        region,
+        offset: address - region.base_ipa,
+    })
+}
+
+// The same search over regions that are lent, in a slice of any length.
+pub fn find_in_slice(regions: &[MemoryAccessRegion], ipa: Ipa) -> RegionFound
+    ensures { λ r. ⌜ r ≡ findRegion (now (regions .entry)) ipa ⌝ }
+{
+    let mut i = 0;
+    while i < regions.len() {
+        let found = find_here(regions[i], ipa);
+        match found {
+            RegionFound::Match(_) => return found,
+            RegionFound::Nothing => i += 1,
+        }
+    }
+    RegionFound::Nothing
+}
+
+// The lent form on an array of one's own: its callers hold no reference to structs.
+pub fn find_in_array(regions: [MemoryAccessRegion; 16], ipa: Ipa) -> RegionFound
+    ensures { λ r. ⌜ r ≡ findRegion regions ipa ⌝ }
+{
+    find_in_slice(&regions, ipa)
 }

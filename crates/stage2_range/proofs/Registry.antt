@@ -1,8 +1,8 @@
 -- Laws on the searches of the regions and on the registry. Assumes nothing.
 use Prim.Native.Nat.{ℕ, _+_, _-_, _≤_, _<_, min}
 use mathlib.Core.Path.{_≡_, refl, sym, _∙_, ap}
-use mathlib.Core.Bool.{Bool, true, false, true≢false}
-use mathlib.Core.List.{List, _∷_, _++_, List·Memᴰ}
+use mathlib.Core.Bool.{Bool, true, false, cond, true≢false}
+use mathlib.Core.List.{List, [], _∷_, _++_, List·Memᴰ}
 use native.Mathlib.Omega.{arith}
 use native.Mathlib.Numerals.{add-one}
 use borrow.Author.Tests.{lt-ltb, le-leb, lt-leb, ltb-true, leb-true}
@@ -17,6 +17,7 @@ use Rattle.stage2_range.specs.declared.MemoryAccessRegion.{MemoryAccessR
 use Rattle.stage2_range.specs.declared.Sought.{Sought}
 use Rattle.stage2_range.specs.declared.Sought.the-variants.{Overlap, Address, BaseNotBelow}
 use Rattle.stage2_range.specs.declared.MemoryAccessHandlerMatch.{MemoryAccessHandlerMatch}
+use Rattle.stage2_range.specs.declared.RegionFound.{RegionFound}
 use Rattle.stage2_range.specs.declared.RegionFound.the-variants.{Nothing, Match}
 use Rattle.stage2_range.specs.Registry.{fits, overlapsRegions, findRegion, insertRegion, registerAnswer, registerRegion}
 use Rattle.stage2_range.specs.Ranges.{sharesByte}
@@ -160,6 +161,22 @@ module _ (regions : List MemoryAccessRegion) (n : ℕ) (region : MemoryAccessReg
       → registerRegion regions n region ≡ record { answer = Accepted; regions = insertRegion regions n region; «region_count» = n + 1 }
   unfolding registerRegion registerAnswer
   apart-registered h o = rw (lt-leb 16 n h, o)
+
+-- the first of two searches that finds a region
+abbrev pub orElse : RegionFound → RegionFound → RegionFound
+orElse Nothing other = other
+orElse (Match m) other = Match m
+
+-- a search is that of the first region, or else that of the others
+pub find-first : (r : MemoryAccessRegion) (regions : List MemoryAccessRegion) (ipa : Ipa)
+    → findRegion (r ∷ regions) ipa ≡ orElse (findRegion (r ∷ []) ipa) (findRegion regions ipa)
+unfolding findRegion
+find-first r regions ipa = go _ (fits (Address (ipa .0)) r)
+  where
+    go : (m : MemoryAccessHandlerMatch) (b : Bool)
+        → cond b (Match m) (findRegion regions ipa) ≡ orElse (cond b (Match m) Nothing) (findRegion regions ipa)
+    go m true = refl
+    go m false = refl
 
 -- a region that is found is one of those searched, it has the address, and the offset is counted from its base
 pub find-held : (regions : List MemoryAccessRegion) (ipa : Ipa) (m : MemoryAccessHandlerMatch) → findRegion regions ipa ≡ Match m

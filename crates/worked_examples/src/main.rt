@@ -4,14 +4,15 @@ ghost use Prim.Native.Nat.{_-_, _^_};
 ghost use lib.ListN.{getD};
 ghost use Rattle.memory_access.specs.Syndrome.{valuesOf};
 ghost use Rattle.stage2_range.specs.Ranges.{alignedValue};
-ghost use Rattle.stage2_range.specs.Registry.{foundValues};
+ghost use Rattle.stage2_range.specs.Registry.{findRegion, foundValues};
 ghost use Rattle.simple_map.specs.Map.{lookupValues};
-ghost use Rattle.exceptions.specs.Registers.{readValue};
+ghost use Rattle.exceptions.specs.Registers.{freshCore, readValue, writeGpr};
 ghost use Rattle.hypervisor.specs.Cores.{noCore};
 ghost use Rattle.worked_examples.specs.Examples.{signedHalfword, readable, twoPages, intoFullMap, counterLoad, oneRegion, savedCores, trapAt, trapped, replyOf, replied};
 use data_abort::TrapRegisters;
 use exceptions::Core;
 use exceptions::GprRead;
+use exceptions::GprWritten;
 use forwarded_call::HvcReply;
 use hvc_response::HvcResult;
 use hypervisor::CoresStep;
@@ -75,6 +76,18 @@ fn found_offset(found: RegionFound) -> u64
 {
     match found {
         RegionFound::Match(m) => m.offset,
+        RegionFound::Nothing => 0,
+    }
+}
+
+fn found_size(found: RegionFound) -> u64
+    ensures { λ r. ⌜ r ≡ getD (foundValues found) 1 0 ⌝ }
+{
+    match found {
+        RegionFound::Match(m) => {
+            let region = m.region;
+            region.size
+        }
         RegionFound::Nothing => 0,
     }
 }
@@ -285,6 +298,41 @@ fn write_of_register_32() -> u64
     answer.number()
 }
 
+// A write of 7 to the fresh core, which is lent.
+fn lent_write(index: usize) -> GprWritten
+    ensures { λ r. ⌜ r ≡ writeGpr freshCore index 7 ⌝ }
+{
+    exceptions::write_gpr_by_loan(Core::fresh(), index, 7)
+}
+
+fn lent_register_written() -> u64
+    ensures { λ r. ⌜ r ≡ 7 ⌝ }
+{
+    let core = lent_write(5).core;
+    register_value(core.read_gpr(5))
+}
+
+fn lent_write_of_register_5() -> u64
+    ensures { λ r. ⌜ r ≡ 0 ⌝ }
+{
+    let answer = lent_write(5).answer;
+    answer.number()
+}
+
+fn lent_write_of_register_31() -> u64
+    ensures { λ r. ⌜ r ≡ 0 ⌝ }
+{
+    let answer = lent_write(31).answer;
+    answer.number()
+}
+
+fn lent_write_of_register_32() -> u64
+    ensures { λ r. ⌜ r ≡ 17 ⌝ }
+{
+    let answer = lent_write(32).answer;
+    answer.number()
+}
+
 fn register_after_an_error() -> u64
     ensures { λ r. ⌜ r ≡ 2 ^ 64 - 3 ⌝ }
 {
@@ -355,6 +403,28 @@ fn offset_in_the_second_region() -> u64
     let built = one_region().handle_range(0x0900_0000, 0x1000, 1, 1);
     let policy = built.policy;
     found_offset(policy.find(Ipa(0x0F00_0018)))
+}
+
+// A search of that policy's regions, which are lent.
+fn lent_find(ipa: Ipa) -> RegionFound
+    ensures { λ r. ⌜ r ≡ findRegion (oneRegion .regions) ipa ⌝ }
+{
+    let policy = one_region();
+    let regions = policy.regions;
+    stage2::find_in_array(regions, ipa)
+}
+
+// The bench row "region 0x0F000000 size 4,096: find 0x0F000FFF; 0x0F001000".
+fn lent_offset_of_the_last_byte() -> u64
+    ensures { λ r. ⌜ r ≡ 4095 ⌝ }
+{
+    found_offset(lent_find(Ipa(0x0F00_0FFF)))
+}
+
+fn lent_size_past_the_end() -> u64
+    ensures { λ r. ⌜ r ≡ 0 ⌝ }
+{
+    found_size(lent_find(Ipa(0x0F00_1000)))
 }
 
 // Eight cores, core 0 saved with one value in all its registers.
@@ -588,6 +658,10 @@ fn registers() {
     value(b"x30 after a write of 7", link_register_written(), 7);
     value(b"store from Rt 31", store_from_register_31(), 0);
     number(b"write of x32", write_of_register_32(), 17);
+    value(b"x5 after a lent write of 7", lent_register_written(), 7);
+    number(b"lent write of x5", lent_write_of_register_5(), 0);
+    number(b"lent write of x31", lent_write_of_register_31(), 0);
+    number(b"lent write of x32", lent_write_of_register_32(), 17);
     value(
         b"x0 after error -3",
         register_after_an_error(),
@@ -616,6 +690,16 @@ fn policies() {
         b"regions 0x0F000000, then 0x09000000: offset of 0x0F000018",
         offset_in_the_second_region(),
         0x18,
+    );
+    value(
+        b"lent region 0x0F000000: offset of 0x0F000FFF",
+        lent_offset_of_the_last_byte(),
+        4095,
+    );
+    value(
+        b"lent region 0x0F000000: size found for 0x0F001000",
+        lent_size_past_the_end(),
+        0,
     );
 }
 

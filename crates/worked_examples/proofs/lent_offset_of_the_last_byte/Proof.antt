@@ -1,0 +1,23 @@
+use Rattle.lists.specs.Lists.{held}
+use Rattle.stage2_range.specs.Ranges.{validateRange, overlapsAllowed, sharesByte}
+use Rattle.stage2_range.specs.Registry.{registerAnswer, overlapsRegions, fits, insertRegion, findRegion}
+use Rattle.stage2.specs.Policy.{freshPolicy, handleRange, handleAnswerFor, withRegion}
+use Rattle.worked_examples.specs.Examples.{oneRegion}
+use borrow.Author.Needs.{needs}
+use Rattle.worked_examples.proofs.lent_offset_of_the_last_byte.Statement.{statement}
+use Rattle.worked_examples.proofs.lent_offset_of_the_last_byte.Tie as tie
+
+lent-find-requires : tie.Need-lent-find-requires
+lent-find-requires c κs = search needs
+
+found-offset-requires : tie.Need-found-offset-requires
+found-offset-requires c κs = search needs
+
+returns : tie.Need-returns
+unfolding
+    held validateRange overlapsAllowed sharesByte registerAnswer overlapsRegions fits insertRegion findRegion freshPolicy handleRange
+    handleAnswerFor withRegion oneRegion
+returns c = rw (c .found-offset .ensures, c .before .lent-find .ensures)
+
+pub lent-offset-of-the-last-byte-spec : {M : Type 1} → statement M
+lent-offset-of-the-last-byte-spec = tie.close (tie.spec lent-find-requires found-offset-requires returns)
