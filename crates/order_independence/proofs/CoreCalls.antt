@@ -204,8 +204,7 @@ module _ (key : ℕ → ℕ) (differ : KeysDiffer key) (regions : List MemoryAcc
   kept-no-load : (core : Core) (registers : TrapRegisters) (k : ℕ) → handleSyncLower regions core k registers .counter ≡ k
       → StepLoads regions core registers → ⊥
   kept-no-load core registers k e l =
-      let grown : handleSyncLower regions core k registers .counter ≡ (k + 1) % 2 ^ 64 = ap (λ (t : TrapStep). t .counter) (step-loads regions core registers k l) in
-      omega arith
+      omega (arith, e, ap (λ (t : TrapStep). t .counter) (step-loads regions core registers k l))
 
   steady : (c : CoreCall) (l : Part) (k k′ : ℕ) → M .act c l k .counter ≡ k
       → M .act c l k′ ≡ record { answer = M .act c l k .answer; part = M .act c l k .part; counter = k′ }

@@ -82,56 +82,63 @@ module _ (M : System) (W : Laws M) where
   abbrev OnlyBy : ℕ → S → List C → Type 0
   OnlyBy loader s cs = (i : ℕ) → i < 8 → (i ≡ loader → ⊥) → Still (M .part i s) (select (M .own i) cs)
 
-  -- One step.
+  -- One step, before the steps `cs`.
   module _ (s : S) (c : C) (cs : List C) (sound : M .Sound s) (named : M .Named c) where
-    -- what the others do after it leaves the counter too
+    -- what it comes to at a counter, as an own step of core `i`
+    abbrev acted : ℕ → ℕ → Acted (M .Part) (M .Answer)
+    acted i k = M .act c (M .part i s) k
+
+    -- a core whose own steps leave the counter: so does this one
+    still-head : (i : ℕ) → M .own i c ≡ true → Still (M .part i s) (select (M .own i) (c ∷ cs)) → acted i 0 .counter ≡ 0
+    still-head i o still = subst (λ b. Still (M .part i s) (cond b (c ∷ select (M .own i) cs) (select (M .own i) cs))) o still .0
+
+    -- and so do those after it
     still-rest : (i : ℕ) → i < 8 → Still (M .part i s) (select (M .own i) (c ∷ cs))
         → Still (M .part i (M .next s c)) (select (M .own i) cs)
     still-rest i h still = go (M .own i c) refl still
       where
         go : (b : Bool) → M .own i c ≡ b → Still (M .part i s) (cond b (c ∷ select (M .own i) cs) (select (M .own i) cs))
             → Still (M .part i (M .next s c)) (select (M .own i) cs)
-        go true e k =
+        go true o k =
             subst (λ l. Still l (select (M .own i) cs))
-            (sym (ap (λ a. a .part) (W .local s c i sound named h e ∙ W .steady c (M .part i s) 0 (M .counter s) (k .0)))) (k .1)
-        go false e k = subst (λ l. Still l (select (M .own i) cs)) (sym (W .others s c i sound named h e)) k
+            (sym (ap (λ a. a .part) (W .local s c i sound named h o ∙ W .steady c (M .part i s) 0 (M .counter s) (k .0)))) (k .1)
+        go false o k = subst (λ l. Still l (select (M .own i) cs)) (sym (W .others s c i sound named h o)) k
 
     -- where it is not the loader's, it leaves the counter
     counter-left : (loader : ℕ) → OnlyBy loader s (c ∷ cs) → M .own loader c ≡ false → M .counter (M .next s c) ≡ M .counter s
     counter-left loader only e = go (W .owned c named)
       where
-        go : ((i : ℕ) × (i < 8) × (M .own i c ≡ true)) ⊎ ((s : S) → M .counter (M .next s c) ≡ M .counter s)
+        go : ((i : ℕ) × (i < 8) × (M .own i c ≡ true)) ⊎ ((t : S) → M .counter (M .next t c) ≡ M .counter t)
             → M .counter (M .next s c) ≡ M .counter s
         go (inl (i, h, o)) =
-            let still = only i h (λ z. true≢false (sym (subst (λ j. M .own j c ≡ true) z o) ∙ e)) in
-            let head = subst (λ b. Still (M .part i s) (cond b (c ∷ select (M .own i) cs) (select (M .own i) cs))) o still .0 in
-            ap (λ a. a .counter) (W .local s c i sound named h o ∙ W .steady c (M .part i s) 0 (M .counter s) head)
+            let still = still-head i o (only i h (λ z. true≢false (sym (subst (λ j. M .own j c ≡ true) z o) ∙ e))) in
+            ap (λ a. a .counter) (W .local s c i sound named h o ∙ W .steady c (M .part i s) 0 (M .counter s) still)
         go (inr kept) = kept s
 
-    -- as an own step of core `i`, it comes to what it comes to at a counter `k` that need be the true one for the loader alone
+    -- As an own step of core `i`, it comes to what it comes to at a counter `k`, which need be the true one for the loader alone.
     record AtCounter (loader i k : ℕ) : Type 0 where
-      said : M .answer s c ≡ M .act c (M .part i s) k .answer
-      left : M .part i (M .next s c) ≡ M .act c (M .part i s) k .part
-      counted : i ≡ loader → M .counter (M .next s c) ≡ M .act c (M .part i s) k .counter
+      said : M .answer s c ≡ acted i k .answer
+      left : M .part i (M .next s c) ≡ acted i k .part
+      counted : i ≡ loader → M .counter (M .next s c) ≡ acted i k .counter
 
     at-counter : (loader i k : ℕ) → i < 8 → OnlyBy loader s (c ∷ cs) → M .own i c ≡ true → (i ≡ loader → M .counter s ≡ k)
         → AtCounter loader i k
     at-counter loader i k h only o e = go (ℕ-discrete i loader)
       where
-        at : M .act c (M .part i s) (M .counter s) ≡ M .act c (M .part i s) k → AtCounter loader i k
-        at q =
-            let p = W .local s c i sound named h o ∙ q in
-            record { said = ap (λ a. a .answer) p; left = ap (λ a. a .part) p; counted = λ z. ap (λ a. a .counter) p }
+        here : record { answer = M .answer s c; part = M .part i (M .next s c); counter = M .counter (M .next s c) } ≡ acted i (M .counter s)
+        here = W .local s c i sound named h o
 
         go : Dec (i ≡ loader) → AtCounter loader i k
-        go (yes z) = at (ap (M .act c (M .part i s)) (e z))
+        go (yes z) =
+            let p = here ∙ ap (acted i) (e z) in
+            record { said = ap (λ a. a .answer) p; left = ap (λ a. a .part) p; counted = λ z. ap (λ a. a .counter) p }
         go (no ne) =
-            let still = subst (λ b. Still (M .part i s) (cond b (c ∷ select (M .own i) cs) (select (M .own i) cs))) o (only i h ne) .0 in
-            let q = W .local s c i sound named h o ∙ W .steady c (M .part i s) 0 (M .counter s) still in
-            let r = W .steady c (M .part i s) 0 k still in
+            let still = still-head i o (only i h ne) in
+            let p = here ∙ W .steady c (M .part i s) 0 (M .counter s) still in
+            let q = W .steady c (M .part i s) 0 k still in
             record {
-              said = ap (λ a. a .answer) q ∙ sym (ap (λ a. a .answer) r);
-              left = ap (λ a. a .part) q ∙ sym (ap (λ a. a .part) r);
+              said = ap (λ a. a .answer) p ∙ sym (ap (λ a. a .answer) q);
+              left = ap (λ a. a .part) p ∙ sym (ap (λ a. a .part) q);
               counted = λ z. absurd (ne z);
             }
 
@@ -165,8 +172,8 @@ module _ (M : System) (W : Laws M) where
           → Tracked loader i k (M .part i s) (cond b (c ∷ rest) rest) (after (M .next s c) cs) (cond b (M .answer s c ∷ said) said)
       go true o later =
           let a = at-counter s c cs sound here loader i k h only o e in
-          let t : Tracked loader i (M .act c (M .part i s) k .counter) (M .act c (M .part i s) k .part) rest (after (M .next s c) cs) said
-          = subst (λ l. Tracked loader i (M .act c (M .part i s) k .counter) l rest (after (M .next s c) cs) said) (a .left) (later (M .act c (M .part i s) k .counter) (a .counted)) in
+          let k′ = acted s c cs sound here i k .counter in
+          let t = subst (λ l. Tracked loader i k′ l rest (after (M .next s c) cs) said) (a .left) (later k′ (a .counted)) in
           record { part = t .part; answers = ap₂ (λ x xs. x ∷ xs) (a .said) (t .answers); counter = t .counter }
       go false o later =
           subst (λ l. Tracked loader i k l rest (after (M .next s c) cs) said) (W .others s c i sound here h o)

@@ -44,7 +44,8 @@ module _ (key : ℕ → ℕ) (differ : KeysDiffer key) (regions : List MemoryAcc
 pub order-independent-from : (key : ℕ → ℕ) (s t : State) → Sound key s → Sound key t → Same key s t → OrderIndependentFrom key s t
 order-independent-from key s t sound-s sound-t same calls order steps again done apart =
     let differ = apart .keys-differ in
-    let b = any-order (s .policy) (t .policy) calls order (sound-s .well-formed) (sound-t .well-formed) (same .policies) (done .same-calls) in
+    let b =
+    any-order (s .policy) (t .policy) calls order (sound-s .well-formed) (sound-t .well-formed) (same .policies) (done .same-calls) in
     let regions = regionsHeld (buildAll (s .policy) calls) in
     let p : State = afterBuilds s calls in
     let q : State = afterBuilds t order in

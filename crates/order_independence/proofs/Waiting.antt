@@ -80,7 +80,8 @@ module _ (s : State) (i : ℕ) (within : i ≤ 7) (places : length (s .cores) �
       go false e = elsewhere j (λ z. eqb-false j i e (sym z))
 
   trap-after : (registers : TrapRegisters) (j : ℕ)
-      → waits (waitOf (call s (core-call (trap j registers)) .state) i) ≡ outstandingAfter s i (waits (waitOf s i)) (core-call (trap j registers))
+      → waits (waitOf (call s (core-call (trap j registers)) .state) i)
+      ≡ outstandingAfter s i (waits (waitOf s i)) (core-call (trap j registers))
   trap-after registers =
       let t : ℕ → Trapped = λ j. trapOn (s .policy) (s .cores) (s .counter) j registers in
       let step = trap-step (s .policy) (s .cores) (s .counter) i registers within places in
@@ -90,7 +91,8 @@ module _ (s : State) (i : ℕ) (within : i ≤ 7) (places : length (s .cores) �
       (λ j h. ap (λ (c : Core). waits (c .wait)) (trap-others (s .policy) (s .cores) (s .counter) j registers i h))
 
   reply-after : (result : HvcReply) (j : ℕ)
-      → waits (waitOf (call s (core-call (reply j result)) .state) i) ≡ outstandingAfter s i (waits (waitOf s i)) (core-call (reply j result))
+      → waits (waitOf (call s (core-call (reply j result)) .state) i)
+      ≡ outstandingAfter s i (waits (waitOf s i)) (core-call (reply j result))
   unfolding replyOn
   reply-after result =
       let step : Core → CoreStep = λ core. replyStep (replyCore core result) in
@@ -108,7 +110,8 @@ module _ (s : State) (i : ℕ) (within : i ≤ 7) (places : length (s .cores) �
       (rw (ap (λ (x : CoreStep). x .core) (core-step (s .cores) i step within places), save-wait (getD (s .cores) i noCore) x elr spsr))
       (λ j h. ap (λ (c : Core). waits (c .wait)) (core-others (s .cores) j step i h))
 
-  write-after : (form : GprForm) (index value j : ℕ) → waits (waitOf (call s (core-call (write-gpr form j index value)) .state) i) ≡ waits (waitOf s i)
+  write-after : (form : GprForm) (index value j : ℕ)
+      → waits (waitOf (call s (core-call (write-gpr form j index value)) .state) i) ≡ waits (waitOf s i)
   write-after form index value =
       let written : ℕ → Core = λ j. writeGpr (getD (s .cores) j noCore) index value .core in
       by-core (λ j. set (s .cores) j (written j)) (λ b j. waits (waitOf s i))

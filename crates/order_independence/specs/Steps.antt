@@ -1,4 +1,5 @@
--- Whose step a core step is, and when it loads the counter word (document 01, "Two runs side by side"). A core's key is `key i`. Assumes nothing.
+-- Whose step a core step is, and when it loads the counter word (document 01, "Two runs side by side"). The key of core `i` is `key i`.
+-- Assumes nothing.
 use Prim.Native.Nat.{ℕ, _<_}
 use mathlib.Core.Path.{_≡_}
 use mathlib.Core.Bool.{Bool, true, false}
