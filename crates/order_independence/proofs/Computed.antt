@@ -29,7 +29,7 @@ use Rattle.order_independence.proofs.Needed.{page, load}
 abbrev narrow : TrapRegisters
 narrow = record { esr = 0x93858000; fipa = record { 0 = 0xF000 }; far = 0x10; vbar = 0x80000 }
 
-abbrev hvc : TrapRegisters
+abbrev pub hvc : TrapRegisters
 hvc = record { esr = 0x5A000000; fipa = record { 0 = 0 }; far = 0; vbar = 0 }
 
 abbrev entry : ℕ → SuspendCoreData

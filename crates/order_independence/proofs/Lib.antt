@@ -8,3 +8,4 @@ pub mod Runs
 pub mod OrderIndependence
 pub mod Needed
 pub mod Computed
+pub mod Instance
