@@ -2,4 +2,3 @@
 pub mod Laws
 pub mod Refusals
 pub mod Steps
-pub mod CounterWord

@@ -1,5 +1,4 @@
--- What the contracts of `hypervisor` cite, and when a trap loads the counter word.
+-- What the contracts of `hypervisor` cite.
 pub mod Answers
 pub mod Trap
 pub mod Cores
-pub mod CounterWord

@@ -26,7 +26,7 @@ use Rattle.hypervisor.specs.declared.TrapStep.{TrapStep}
 use Rattle.hypervisor.specs.Trap.{handleSyncLower}
 use Rattle.hypervisor.specs.Cores.{noCore, saveCore, replyStep, onCore, saveOn, replyOn, trapOn}
 use Rattle.hypervisor.proofs.Steps.{trap-step, trap-others, trap-policy, core-step, core-others}
-use Rattle.hypervisor.proofs.CounterWord.{StepLoads, step-loads, step-steady}
+use Rattle.order_independence.proofs.CounterWord.{StepLoads, step-loads, step-steady}
 use Rattle.order_independence.specs.Calls.{State, CoreCall, save, trap, reply, write-gpr, insert, get, remove, core-call, Answer, stepped, trapped, written, inserted, looked-up, coreCall}
 use Rattle.order_independence.specs.Steps.{isOwn, Named}
 use Rattle.order_independence.specs.OrderIndependence.{Sound}

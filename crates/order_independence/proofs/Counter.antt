@@ -4,7 +4,7 @@ use mathlib.Core.Path.{_≡_, refl, ap}
 use mathlib.Core.Bool.{true}
 use borrow.Author.Tests.{eqb-true}
 use Rattle.hypervisor.specs.declared.Trapped.{Trapped}
-use Rattle.hypervisor.proofs.CounterWord.{word-loaded, counter-left}
+use Rattle.order_independence.proofs.CounterWord.{word-loaded, counter-left}
 use Rattle.order_independence.specs.Calls.{State, CoreCall, save, trap, reply, write-gpr, insert, get, remove, coreCall}
 use Rattle.order_independence.specs.Steps.{isOwn, LoadsBy}
 use Rattle.order_independence.specs.OrderIndependence.{Sound}

@@ -1,6 +1,8 @@
 -- Laws over the host's calls and over lists of them, and demand 3.
 pub mod Calls
 pub mod Waiting
+pub mod Builds
+pub mod CounterWord
 pub mod Mixing
 pub mod CoreCalls
 pub mod Counter

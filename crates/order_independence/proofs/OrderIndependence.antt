@@ -11,7 +11,7 @@ use Rattle.lists.proofs.Sorting.{perm-member}
 use Rattle.stage2_range.specs.declared.MemoryAccessRegion.{MemoryAccessRegion}
 use Rattle.stage2.specs.Policy.{regionsHeld}
 use Rattle.stage2.specs.Builds.{buildAll}
-use Rattle.stage2.proofs.Order.{any-order}
+use Rattle.order_independence.proofs.Builds.{any-order}
 use Rattle.simple_map.specs.Keys.{KeysDiffer}
 use Rattle.hypervisor.specs.Cores.{noCore}
 use Rattle.order_independence.specs.Calls.{State, freshState, CoreCall, coreCall, afterBuilds, afterSteps}

@@ -5,7 +5,8 @@ use mathlib.Core.List.{List, List·Memᴰ, List·Permᴰ}
 use lib.ListN.{length}
 use Rattle.lists.specs.Lists.{select}
 use Rattle.stage2.specs.declared.Policy.{Policy}
-use Rattle.stage2.specs.Builds.{BuilderCall, accepted, AllAccepted, SamePolicy, WellFormed}
+use Rattle.stage2.specs.Builds.{BuilderCall, WellFormed}
+use Rattle.order_independence.specs.Builds.{accepted, AllAccepted, SamePolicy}
 use Rattle.simple_map.specs.Map.{getItem}
 use Rattle.simple_map.specs.Keys.{KeysDiffer, HoldsKeys}
 use Rattle.order_independence.specs.Calls.{State, freshState, CoreCall, Answer, answerNumber, answerValues, AllZero, afterBuilds, afterSteps, answersTo}

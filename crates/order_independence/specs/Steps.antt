@@ -6,7 +6,7 @@ use mathlib.Core.Bool.{Bool, true, false}
 use mathlib.Core.List.{List, [], _∷_, List·Memᴰ}
 use mathlib.Core.Logic.{_⊎_}
 use lib.Dec.{eqb, ltb}
-use Rattle.hypervisor.specs.CounterWord.{LoadsCounterWord}
+use Rattle.order_independence.specs.CounterWord.{LoadsCounterWord}
 use Rattle.order_independence.specs.Calls.{State, CoreCall, save, trap, reply, write-gpr, insert, get, remove, coreCall}
 
 -- a core's own steps: those on its number, and "steps of the core whose key they name"

@@ -1,6 +1,5 @@
 -- Laws that the proofs of the crates above cite.
 pub mod Laws
 pub mod WellFormed
-pub mod Order
 -- Machine values that the walks of this crate cite.
 mod Values

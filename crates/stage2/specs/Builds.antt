@@ -1,16 +1,13 @@
 -- Lists of builder calls, what every policy that they make has, and policies that are the same. Assumes nothing.
 use Prim.Native.Nat.{ℕ, _+_, _≤_, _<_}
 use mathlib.Core.Path.{_≡_}
-use mathlib.Core.Bool.{Bool, _&&_, true, false, cond}
+use mathlib.Core.Bool.{_&&_, true, false}
 use mathlib.Core.List.{List, [], _∷_, List·Memᴰ}
-use lib.Dec.{eqb}
 use lib.ListN.{length}
 use Rattle.lists.specs.Lists.{Ascending}
-use Rattle.lists.specs.Sorting.{sortBy}
-use Rattle.stage2_range.specs.declared.Stage2Result.the-variants.{Accepted}
 use Rattle.stage2_range.specs.declared.Stage2Range.{Stage2Range}
 use Rattle.stage2_range.specs.declared.MemoryAccessRegion.{MemoryAccessRegion}
-use Rattle.stage2_range.specs.Ranges.{ValidRange, sharesByte, resultNumber}
+use Rattle.stage2_range.specs.Ranges.{ValidRange, sharesByte}
 use Rattle.stage2.specs.declared.Policy.{Policy}
 use Rattle.stage2.specs.declared.Built.{Built}
 use Rattle.stage2.specs.Policy.{isHandler, allowedHeld, regionsHeld, allowRange, handleRange}
@@ -29,25 +26,6 @@ build p (handle base size read write) = handleRange p base size read write
 abbrev pub buildAll : Policy → List BuilderCall → Policy
 buildAll p [] = p
 buildAll p (c ∷ cs) = buildAll (build p c .policy) cs
-
--- a call is accepted
-abbrev pub accepts : Policy → BuilderCall → Bool
-accepts p c = eqb (resultNumber (build p c .answer)) 0
-
--- the calls of a list that are accepted, in order
-abbrev pub accepted : Policy → List BuilderCall → List BuilderCall
-accepted p [] = []
-accepted p (c ∷ cs) = cond (accepts p c) (c ∷ accepted (build p c .policy) cs) (accepted (build p c .policy) cs)
-
--- every call of a list is accepted
-abbrev pub AllAccepted : Policy → List BuilderCall → Type 0
-AllAccepted p [] = Unit {0}
-AllAccepted p (c ∷ cs) = (build p c .answer ≡ Accepted) × AllAccepted (build p c .policy) cs
-
--- "Equal are: the regions, field by field in place; the allowed ranges, field by field once sorted by base"
-pub record SamePolicy (p q : Policy) : Type 0 where
-  pub regions : regionsHeld p ≡ regionsHeld q
-  pub allowed : sortBy (λ r. r .«base_ipa») (allowedHeld p) ≡ sortBy (λ r. r .«base_ipa») (allowedHeld q)
 
 -- a range shares no byte with an allowed range or a region that is held
 pub record Apart (p : Policy) (base end : ℕ) : Type 0 where

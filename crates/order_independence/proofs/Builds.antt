@@ -16,11 +16,12 @@ use Rattle.stage2_range.specs.declared.Stage2Range.{Stage2Range}
 use Rattle.stage2_range.specs.declared.MemoryAccessRegion.{MemoryAccessRegion}
 use Rattle.stage2_range.specs.Ranges.{ValidRange, sharesByte, resultNumber}
 use Rattle.stage2_range.proofs.Ranges.{shares-sym, apart-bases}
 use Rattle.stage2.specs.declared.Policy.{Policy}
 use Rattle.stage2.specs.Policy.{isHandler, rangeOf, regionOf, allowedHeld, regionsHeld, withAllowed, withRegion}
-use Rattle.stage2.specs.Builds.{BuilderCall, allow, handle, build, buildAll, accepts, accepted, AllAccepted, SamePolicy, Apart, CanAllow, CanHandle, WellFormed}
+use Rattle.stage2.specs.Builds.{BuilderCall, allow, handle, build, buildAll, Apart, CanAllow, CanHandle, WellFormed}
+use Rattle.order_independence.specs.Builds.{accepts, accepted, AllAccepted, SamePolicy}
 use Rattle.stage2.proofs.Laws.{error-not-zero, build-refused, allow-accepted, can-allow, handle-accepted, can-handle}
 use Rattle.stage2.proofs.WellFormed.{allowed-held, regions-held, build-keeps}
 
 -- what equal policies have in common: the allowed ranges sorted by base, and the regions
 record View : Type 0 where

@@ -25,16 +25,16 @@ use Rattle.data_abort.specs.declared.TrapRegisters.{TrapRegisters}
 use Rattle.data_abort.specs.DataAbort.{iss}
 use Rattle.data_abort.specs.CounterLoad.{CounterLoad}
 use Rattle.data_abort.proofs.CounterLoad.{counter-answered, counter-unused}
 use Rattle.hypervisor.specs.declared.CoreError.the-variants.{CoreWaiting}
 use Rattle.hypervisor.specs.declared.TrapAnswer.the-variants.{AccessHandled}
 use Rattle.hypervisor.specs.declared.TrapStep.{TrapStep}
 use Rattle.hypervisor.specs.declared.Trapped.{Trapped}
 use Rattle.hypervisor.specs.Answers.{trapNumber, noValues, answered, refused}
 use Rattle.hypervisor.specs.Trap.{ec, classOf, exceptionClass, byClass, handleSyncLower}
 use Rattle.hypervisor.specs.Cores.{noCore, trapOn, trapCases}
-use Rattle.hypervisor.specs.CounterWord.{LoadsCounterWord}
+use Rattle.order_independence.specs.CounterWord.{LoadsCounterWord}
 use Rattle.hypervisor.proofs.Laws.{by-class}
 use Rattle.hypervisor.proofs.Refusals.{trap-number}
 
 -- the core after a load of the counter word: Rt has the counter as it was, and ELR grows
 abbrev pub counterRead : Core → ℕ → TrapRegisters → Core
