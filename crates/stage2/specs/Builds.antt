@@ -1,4 +1,4 @@
--- Lists of builder calls, what every policy that they make has, and policies that are the same. Assumes nothing.
+-- Lists of builder calls, and what every policy that they make has. Assumes nothing.
 use Prim.Native.Nat.{ℕ, _+_, _≤_, _<_}
 use mathlib.Core.Path.{_≡_}
 use mathlib.Core.Bool.{_&&_, true, false}
