@@ -1,5 +1,5 @@
--- A pair of runs, computed: two mixings of the steps of three cores end the same. Each system that the must-fail edits make differs here.
--- Assumes nothing.
+-- A pair of runs, computed: two mixings of the steps of three cores end the same. A trap that reads another core, a faulted load that
+-- counts, a remove that clears every entry and a write to another core each make them differ. Assumes nothing.
 use Prim.Native.Nat.{ℕ, _+_}
 use mathlib.Core.Path.{_≡_, refl}
 use mathlib.Core.List.{List, [], _∷_}
