@@ -1,12 +1,18 @@
 -- Laws on the trap's parts that its functions' proofs cite. Assumes nothing.
 use Prim.Native.Nat.{ℕ, _-_}
-use mathlib.Core.Path.{_≡_, refl}
-use mathlib.Core.Bool.{Bool, true, false, cond}
+use mathlib.Core.Path.{_≡_, refl, sym, ap, _∙_}
+use mathlib.Core.Bool.{Bool, true, false, cond, true≢false}
 use borrow.Author.Tests.{eqb-true}
 use lib.Dec.{eqb}
 use Rattle.hypervisor.specs.declared.ExceptionClass.{ExceptionClass}
 use Rattle.hypervisor.specs.declared.ExceptionClass.the-variants.{HvcTrappedInAArch64, SmcTrappedInAArch64, DataAbortLowerEl, Unknown}
-use Rattle.hypervisor.specs.Trap.{classOf}
+use mathlib.Core.List.{List}
+use Rattle.stage2_range.specs.declared.MemoryAccessRegion.{MemoryAccessRegion}
+use Rattle.exceptions.specs.declared.Core.{Core}
+use Rattle.data_abort.specs.declared.TrapRegisters.{TrapRegisters}
+use Rattle.forwarded_call.specs.ForwardedCall.{waits}
+use Rattle.hypervisor.specs.Answers.{refused}
+use Rattle.hypervisor.specs.Trap.{ec, classOf, exceptionClass, isDataAbort, byClass, handleSyncLower}
 
 -- what holds of each class where its EC is the one, holds of the class of an EC
 pub by-class : (P : ExceptionClass → Type 0) (class : ℕ) → (class ≡ 0x16 → P HvcTrappedInAArch64) → (class ≡ 0x17 → P SmcTrappedInAArch64)
@@ -27,3 +33,27 @@ by-class P class hvc smc abort other = is-hvc (eqb class 0x16) refl
         → P (cond b HvcTrappedInAArch64 (cond (eqb class 0x17) SmcTrappedInAArch64 (cond (eqb class 0x24) DataAbortLowerEl Unknown)))
     is-hvc true e = hvc (eqb-true class 0x16 e)
     is-hvc false e = is-smc e (eqb class 0x17) refl
+
+-- the class of a data abort
+abbrev pub isAbort : ExceptionClass → Bool
+isAbort HvcTrappedInAArch64 = false
+isAbort SmcTrappedInAArch64 = false
+isAbort DataAbortLowerEl = true
+isAbort Unknown = false
+
+-- a data abort, by its class
+pub abort-class : (esr : ℕ) → isAbort (exceptionClass esr) ≡ isDataAbort esr
+unfolding exceptionClass isDataAbort
+abort-class esr = by-class (λ class. isAbort class ≡ eqb (ec esr) 0x24) (ec esr) (λ e. rw e) (λ e. rw e) (λ e. rw e) (λ h s a. sym a)
+
+-- a trap that is no data abort does not depend on the regions
+pub other-regions : (regions regions′ : List MemoryAccessRegion) (core : Core) (counter : ℕ) (trap : TrapRegisters)
+    → isDataAbort (trap .esr) ≡ false → handleSyncLower regions core counter trap ≡ handleSyncLower regions′ core counter trap
+unfolding handleSyncLower byClass
+other-regions regions regions′ core counter trap h = ap (cond (waits (core .wait)) (refused _ core counter)) (go (exceptionClass (trap .esr)) (abort-class (trap .esr) ∙ h))
+  where
+    go : (class : ExceptionClass) → isAbort class ≡ false → byClass class regions core counter trap ≡ byClass class regions′ core counter trap
+    go HvcTrappedInAArch64 e = refl
+    go SmcTrappedInAArch64 e = refl
+    go DataAbortLowerEl e = absurd (true≢false e)
+    go Unknown e = refl

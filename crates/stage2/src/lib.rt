@@ -126,7 +126,8 @@ fn refuse(policy: Policy, error: Stage2ConfigError) -> Built
     }
 }
 
-fn memory_handler(number: u64) -> MemoryHandler
+// The handler that a number names: the absent one where it names no other.
+pub fn memory_handler(number: u64) -> MemoryHandler
     ensures { λ r. ⌜ r ≡ handlerOf number ⌝ }
 {
     match number {

@@ -19,12 +19,16 @@ use Rattle.stage2_range.specs.declared.RegionFound.the-variants.{Nothing
 use Rattle.stage2_range.specs.declared.Registered.{Registered}
 use Rattle.stage2_range.specs.Ranges.{refuseIf, sharesByte}
 
+-- "base ≤ IPA < end": a region has an address
+abbrev pub hasAddress : ℕ → MemoryAccessRegion → Bool
+hasAddress ipa r = leb (r .«base_ipa») ipa && ltb ipa (r .«end_ipa»)
+
 -- a region is what a search looks for
 unfoldable pub fits : Sought → MemoryAccessRegion → Bool
 -- "shares a byte", "whatever its size says"
 fits (Overlap base end) r = sharesByte (r .«base_ipa») (r .«end_ipa») base end
--- "base ≤ IPA < end"
-fits (Address ipa) r = leb (r .«base_ipa») ipa && ltb ipa (r .«end_ipa»)
+-- an address in the region
+fits (Address ipa) r = hasAddress ipa r
 -- a "base is not below" another
 fits (BaseNotBelow base) r = leb base (r .«base_ipa»)
 
