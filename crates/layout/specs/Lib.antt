@@ -1,0 +1,3 @@
+-- What the contracts of `layout` and `ritm` say of lent bytes.
+pub mod Words
+pub mod Layout
