@@ -1,0 +1,94 @@
+-- Laws of the calls on a core: above 7 there is none, and one of the eight is stepped by itself. Assumes nothing.
+use Prim.Native.Nat.{ℕ, _<_, _≤_}
+use mathlib.Core.Path.{_≡_, refl, sym, ap, _∙_}
+use mathlib.Core.List.{List, [], _∷_}
+use lib.IntN.{ℤ}
+use native.Mathlib.Omega.{arith}
+use borrow.Author.Tests.{lt-ltb, le-ltb}
+use lib.ListN.{getD, set, replicate}
+use lib.Seq.{getD-set-same}
+use Rattle.exceptions.specs.declared.Core.{Core}
+use Rattle.exceptions.specs.Registers.{freshCore}
+use Rattle.forwarded_call.specs.declared.ReplyAnswer.{ReplyAnswer}
+use Rattle.forwarded_call.specs.declared.ReplyAnswer.the-variants as reply
+use Rattle.forwarded_call.specs.declared.Replied.{Replied}
+use Rattle.forwarded_call.specs.ForwardedCall.{replyNumber, replyCore}
+use Rattle.data_abort.specs.declared.TrapRegisters.{TrapRegisters}
+use Rattle.stage2.specs.Policy.{regionsHeld}
+use Rattle.hypervisor.specs.declared.CoreStep.{CoreStep}
+use Rattle.hypervisor.specs.declared.TrapStep.{TrapStep}
+use Rattle.hypervisor.specs.Answers.{coreNumber, trapNumber, trapKind, replyAnswer}
+use Rattle.hypervisor.specs.Trap.{handleSyncLower}
+use Rattle.hypervisor.specs.Cores.{noCore, onCore, replyOn, replyStep, trapOn}
+use Rattle.layout.specs.Words.{bytesOf, wordsAt}
+use Rattle.layout.specs.Layout.{policyAt, coresAt, withCore, counterAt, withCounter}
+use Rattle.layout.proofs.Records.{core-of, length-cores}
+use Rattle.ritm.specs.Interface.{Left, unlessRefused, steppedCore, replyCall, trapCall}
+
+-- one of the eight, whatever stands for a core past them
+pub same-core : (cores : List ℕ) (i : ℕ) → i < 8 → getD (coresAt cores) i noCore ≡ getD (coresAt cores) i freshCore
+same-core cores i h = core-of cores i noCore h ∙ sym (core-of cores i freshCore h)
+
+-- the core that was put in its place
+replaced : (cores : List ℕ) (i : ℕ) (core : Core) → i < 8 → getD (set (coresAt cores) i core) i noCore ≡ core
+replaced cores i core h = getD-set-same (coresAt cores) i core noCore (omega (arith, length-cores cores))
+
+-- what a step of one core leaves
+abbrev pub steppedOne : List ℕ → ℕ → CoreStep → Left
+steppedOne cores i step =
+    let number = coreNumber (step .answer) in
+    record { number = number; state = unlessRefused number cores (withCore cores i (step .core)); result = [] }
+
+pub step-none : (cores : List ℕ) (i : ℕ) (step : Core → CoreStep) → 7 < i
+    → steppedCore cores i (onCore (coresAt cores) i step) ≡ record { number = 10; state = cores; result = [] }
+unfolding steppedCore onCore
+step-none cores i step h = rw (lt-ltb 7 i h)
+
+pub step-one : (cores : List ℕ) (i : ℕ) (step : Core → CoreStep) → i ≤ 7
+    → steppedCore cores i (onCore (coresAt cores) i step) ≡ steppedOne cores i (step (getD (coresAt cores) i freshCore))
+unfolding steppedCore onCore
+step-one cores i step h = rw (le-ltb 7 i h, same-core cores i (omega arith), replaced cores i (step (getD (coresAt cores) i freshCore) .core) (omega arith))
+
+-- what a trap of one core leaves
+abbrev pub trappedOne : List ℕ → ℕ → TrapStep → Left
+trappedOne cores i step =
+    let number = trapNumber (step .answer) in
+    record {
+      number = number;
+      state = unlessRefused number cores (withCounter (withCore cores i (step .core)) (step .counter));
+      result = bytesOf (trapKind (step .answer) ∷ step .values);
+    }
+
+module _ (policy cores : List ℕ) (i : ℕ) (trap : TrapRegisters) where
+  pub trap-none : 7 < i → trapCall policy cores i trap ≡ record { number = 10; state = cores; result = bytesOf (0 ∷ replicate 18 0) }
+  unfolding trapCall trapOn
+  trap-none h = rw (lt-ltb 7 i h)
+
+  pub trap-one : i ≤ 7
+      → trapCall policy cores i trap ≡ trappedOne cores i (handleSyncLower (regionsHeld (policyAt policy)) (getD (coresAt cores) i freshCore) (counterAt cores) trap)
+  unfolding trapCall trapOn
+  trap-one h = rw (le-ltb 7 i h, same-core cores i (omega arith), replaced cores i (handleSyncLower (regionsHeld (policyAt policy)) (getD (coresAt cores) i freshCore) (counterAt cores) trap .core) (omega arith))
+
+-- a reply's number, among those of a core
+reply-number : (answer : ReplyAnswer) → replyNumber answer ≡ coreNumber (replyAnswer answer)
+reply-number reply.Accepted = refl
+reply-number reply.NothingWaiting = refl
+reply-number reply.UnknownReplyKind = refl
+
+-- what a reply to one core leaves
+abbrev pub repliedOne : List ℕ → ℕ → Replied → Left
+repliedOne cores i r =
+    let number = replyNumber (r .answer) in
+    record { number = number; state = unlessRefused number cores (withCore cores i (r .core)); result = [] }
+
+pub reply-one : (cores : List ℕ) (i kind : ℕ) (values : List ℕ) (error : ℤ) → i ≤ 7
+    → replyCall cores i kind values error
+    ≡ repliedOne cores i (replyCore (getD (coresAt cores) i freshCore) (record { kind = kind; values = wordsAt values 0 18; error = error }))
+unfolding replyCall replyOn
+reply-one cores i kind values error h =
+    let r = replyCore (getD (coresAt cores) i freshCore) (record { kind = kind; values = wordsAt values 0 18; error = error }) in
+    step-one cores i (λ one. replyStep (replyCore one (record { kind = kind; values = wordsAt values 0 18; error = error }))) h
+    ∙ ap (λ (n : ℕ). stepLeft cores i n (r .core)) (sym (reply-number (r .answer)))
+  where
+    stepLeft : List ℕ → ℕ → ℕ → Core → Left
+    stepLeft cores i n core = record { number = n; state = unlessRefused n cores (withCore cores i core); result = [] }

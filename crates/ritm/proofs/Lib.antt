@@ -1,0 +1,3 @@
+-- Laws of `ritm`.
+pub mod Cores
+pub mod Find

@@ -1,0 +1,180 @@
+-- What each call of the C interface returns, and what the bytes that it is lent then hold, by the definitions that the library's own contracts
+-- cite. Any bytes are a state. Assumes nothing.
+use Prim.Native.Nat.{ℕ}
+use lib.IntN.{ℤ}
+use mathlib.Core.Bool.{cond}
+use mathlib.Core.List.{List, [], _∷_}
+use lib.Dec.{eqb, ltb}
+use lib.ListN.{getD}
+use Rattle.lists.specs.Lists.{firstIndex}
+use Rattle.memory_access.specs.declared.Decoded.{Decoded}
+use Rattle.memory_access.specs.declared.Decoded.the-variants.{Access, NoSyndrome}
+use Rattle.memory_access.specs.Syndrome.{decodeAccess, numberOf, valuesOf}
+use Rattle.memory_access.specs.Transfer.{extendReadResult}
+use Rattle.stage2_range.specs.declared.RegionFound.{RegionFound}
+use Rattle.stage2_range.specs.declared.RegionFound.the-variants as region
+use Rattle.stage2_range.specs.Ranges.{resultNumber, alignDown, alignUp, alignedNumber, alignedValue}
+use Rattle.stage2_range.specs.Registry.{hasAddress, findRegion}
+use Rattle.stage2.specs.Policy.{regionsHeld, allowRange, handleRange}
+use Rattle.simple_map.specs.declared.Lookup.{Lookup}
+use Rattle.simple_map.specs.declared.Lookup.the-variants as lookup
+use Rattle.simple_map.specs.Map.{getItem, insertItem, insertNumber, removeItem, lookupValues}
+use Rattle.exceptions.specs.Registers.{readGpr, readNumber, readValue, writeGpr, writeNumber}
+use Rattle.data_abort.specs.declared.TrapRegisters.{TrapRegisters}
+use Rattle.hypervisor.specs.declared.CoresStep.{CoresStep}
+use Rattle.hypervisor.specs.Answers.{coreNumber, trapNumber, trapKind}
+use Rattle.hypervisor.specs.Cores.{noCore, saveOn, replyOn, trapOn}
+use Rattle.layout.specs.Words.{wordAt, wordsAt, bytesOf}
+use Rattle.layout.specs.Layout.{policyAt, withAllowed, withRegions, coresAt, withCore, counterAt, withCounter, mapAt, withPlaces}
+
+-- What a call leaves: the number returned, "0 or the refusal's number", the state's bytes, and the result's, written whole.
+pub record Left : Type 0 where
+  pub number : ℕ
+  pub state : List ℕ
+  pub result : List ℕ
+
+-- "A refusal .. all state is as before"
+abbrev pub unlessRefused : ℕ → List ℕ → List ℕ → List ℕ
+unlessRefused number before after = cond (eqb number 0) after before
+
+-- `ritm_allow_range`: the allowed ranges are written, and no byte of the regions
+unfoldable pub allowCall : List ℕ → ℕ → ℕ → ℕ → Left
+allowCall policy base size attributes =
+    let built = allowRange (policyAt policy) base size attributes in
+    let number = resultNumber (built .answer) in
+    record {
+      number = number;
+      state = unlessRefused number policy (withAllowed policy (built .policy .allowed) (built .policy .«allowed_count»));
+      result = [];
+    }
+
+-- `ritm_handle_range`: the regions are written, and no byte of the allowed ranges
+unfoldable pub handleCall : List ℕ → ℕ → ℕ → ℕ → ℕ → Left
+handleCall policy base size read write =
+    let built = handleRange (policyAt policy) base size read write in
+    let number = resultNumber (built .answer) in
+    record {
+      number = number;
+      state = unlessRefused number policy (withRegions policy (built .policy .regions) (built .policy .«region_count»));
+      result = [];
+    }
+
+-- whether a region is found, its place among those held, and the offset in it
+abbrev pub foundWords : ℕ → RegionFound → List ℕ
+foundWords place region.Nothing = 0 ∷ 0 ∷ 0 ∷ []
+foundWords place (region.Match m) = 1 ∷ place ∷ m .offset ∷ []
+
+-- `ritm_find`
+unfoldable pub findCall : List ℕ → ℕ → Left
+findCall policy ipa =
+    let regions = regionsHeld (policyAt policy) in
+    record {
+      number = 0;
+      state = policy;
+      result = bytesOf (foundWords (firstIndex (hasAddress ipa) regions) (findRegion regions (record { 0 = ipa })));
+    }
+
+-- a step of one core: its words are written, and no byte of another core
+unfoldable pub steppedCore : List ℕ → ℕ → CoresStep → Left
+steppedCore cores i step =
+    let number = coreNumber (step .answer) in
+    record { number = number; state = unlessRefused number cores (withCore cores i (getD (step .cores) i noCore)); result = [] }
+
+-- `ritm_save`: x0 to x30, ELR and SPSR are the words of the registers
+unfoldable pub saveCall : List ℕ → ℕ → List ℕ → Left
+saveCall cores i registers =
+    steppedCore cores i (saveOn (coresAt cores) i (wordsAt registers 0 31) (wordAt registers 31) (wordAt registers 32))
+
+-- `ritm_reply`
+unfoldable pub replyCall : List ℕ → ℕ → ℕ → List ℕ → ℤ → Left
+replyCall cores i kind values error =
+    steppedCore cores i (replyOn (coresAt cores) i (record { kind = kind; values = wordsAt values 0 18; error = error }))
+
+-- `ritm_trap`: the core's words and the counter are written; the result is the kind of the answer and its eighteen values
+unfoldable pub trapCall : List ℕ → List ℕ → ℕ → TrapRegisters → Left
+trapCall policy cores i trap =
+    let step = trapOn (policyAt policy) (coresAt cores) (counterAt cores) i trap in
+    let number = trapNumber (step .answer) in
+    record {
+      number = number;
+      state = unlessRefused number cores (withCounter (withCore cores i (getD (step .cores) i noCore)) (step .counter));
+      result = bytesOf (trapKind (step .answer) ∷ step .values);
+    }
+
+-- 10 "number above 7", else the number of a call on one of the eight
+abbrev pub onEight : ℕ → ℕ → ℕ
+onEight i number = cond (ltb 7 i) 10 number
+
+-- `ritm_read_gpr`
+unfoldable pub readCall : List ℕ → ℕ → ℕ → Left
+readCall cores i index =
+    let read = readGpr (getD (coresAt cores) i noCore) index in
+    record {
+      number = onEight i (readNumber read);
+      state = cores;
+      result = bytesOf (cond (ltb 7 i) 0 (readValue read) ∷ []);
+    }
+
+-- `ritm_write_gpr`
+unfoldable pub writeCall : List ℕ → ℕ → ℕ → ℕ → Left
+writeCall cores i index value =
+    let written = writeGpr (getD (coresAt cores) i noCore) index value in
+    let number = onEight i (writeNumber (written .answer)) in
+    record { number = number; state = unlessRefused number cores (withCore cores i (written .core)); result = [] }
+
+-- `ritm_insert`
+unfoldable pub insertCall : List ℕ → ℕ → ℕ → ℕ → Left
+insertCall map key entry context =
+    let inserted = insertItem (mapAt map) key (record { «entry_point» = entry; «context_id» = context }) in
+    let number = insertNumber (inserted .answer) in
+    record { number = number; state = unlessRefused number map (withPlaces map (inserted .map .items)); result = [] }
+
+-- whether there is an entry, its entry point and its context id
+abbrev pub entryWords : Lookup → List ℕ
+entryWords lookup.Nothing = 0 ∷ lookupValues lookup.Nothing
+entryWords (lookup.Value v) = 1 ∷ lookupValues (lookup.Value v)
+
+-- `ritm_get`
+unfoldable pub getCall : List ℕ → ℕ → Left
+getCall map key = record { number = 0; state = map; result = bytesOf (entryWords (getItem (mapAt map) key)) }
+
+-- `ritm_remove`
+unfoldable pub removeCall : List ℕ → ℕ → Left
+removeCall map key =
+    let removed = removeItem (mapAt map) key in
+    record { number = 0; state = withPlaces map (removed .map .items); result = bytesOf (entryWords (removed .removed)) }
+
+-- `ritm_decode`: IPA, bits, WnR, Rt, SSE, SF
+unfoldable pub decodeCall : ℕ → ℕ → ℕ → Left
+decodeCall iss fipa far =
+    let decoded = decodeAccess iss (record { 0 = fipa }) far in
+    record { number = numberOf decoded; state = []; result = bytesOf (valuesOf decoded) }
+
+-- what a load puts into its register, of the value that was read
+abbrev pub extendedValue : Decoded → ℕ → ℕ
+extendedValue (Access access) value = extendReadResult access value
+extendedValue NoSyndrome value = 0
+
+-- `ritm_extend_read_result`, by the syndrome alone
+unfoldable pub extendCall : ℕ → ℕ → Left
+extendCall iss value =
+    let decoded = decodeAccess iss (record { 0 = 0 }) 0 in
+    record { number = numberOf decoded; state = []; result = bytesOf (extendedValue decoded value ∷ []) }
+
+-- `ritm_align_down_to_page`
+unfoldable pub alignDownCall : ℕ → Left
+alignDownCall address = record { number = 0; state = []; result = bytesOf (alignDown address ∷ []) }
+
+-- `ritm_align_up_to_page`
+unfoldable pub alignUpCall : ℕ → Left
+alignUpCall address =
+    let aligned = alignUp address in
+    record { number = alignedNumber aligned; state = []; result = bytesOf (alignedValue aligned ∷ []) }
+
+-- the lengths of the lent buffers, in bytes: policy, cores, map, registers, values; and the results of a trap, of find, an entry, an access, a word
+abbrev pub bufferSizes : List ℕ
+bufferSizes = 1680 ∷ 2440 ∷ 256 ∷ 264 ∷ 144 ∷ 152 ∷ 24 ∷ 24 ∷ 48 ∷ 8 ∷ []
+
+-- `ritm_buffer_size`: the length of a buffer by its number, and 0 where there is none
+unfoldable pub bufferSize : ℕ → ℕ
+bufferSize buffer = getD bufferSizes buffer 0

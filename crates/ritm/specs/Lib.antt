@@ -1,0 +1,2 @@
+-- What the contracts of `ritm` cite.
+pub mod Interface

@@ -1,0 +1,505 @@
+// What an EL2 host in C or Rust calls: plain numbers, and bytes that it lends. A call returns 0 or the number of its refusal; a refusal leaves
+// the state's bytes as they were, and a result is written whole on every call, zeros where there is nothing.
+ghost use mathlib.Core.Path.{_≡_};
+ghost use lib.ListN.{replicate};
+ghost use Rattle.exceptions.specs.Registers.{readValue};
+ghost use Rattle.hypervisor.specs.Cores.{freshCores};
+ghost use Rattle.hypervisor.specs.Trap.{handleSyncLower};
+ghost use Rattle.layout.specs.Words.{bytesOf};
+ghost use Rattle.layout.specs.Layout.{policyAt, coresAt, counterAt, mapAt};
+ghost use Rattle.memory_access.specs.Syndrome.{kindNumber, flagNumber};
+ghost use Rattle.simple_map.specs.Map.{emptyMap};
+ghost use Rattle.stage2.specs.Policy.{freshPolicy, regionsHeld};
+ghost use Rattle.ritm.specs.Interface.{allowCall, handleCall, findCall, saveCall, replyCall, trapCall, readCall, writeCall, insertCall, getCall, removeCall, entryWords, decodeCall, extendCall, alignDownCall, alignUpCall, bufferSize};
+use data_abort::TrapRegisters;
+use exceptions::Core;
+use exceptions::GprRead;
+use forwarded_call::HvcReply;
+use hypervisor::CoreError;
+use hypervisor::TrapStep;
+use layout::ACCESS_RESULT_SIZE;
+use layout::CORES_SIZE;
+use layout::ENTRY_RESULT_SIZE;
+use layout::FIND_RESULT_SIZE;
+use layout::MAP_SIZE;
+use layout::POLICY_SIZE;
+use layout::REGISTERS_SIZE;
+use layout::TRAP_RESULT_SIZE;
+use layout::VALUES_SIZE;
+use layout::WORD_RESULT_SIZE;
+use memory_access::Decoded;
+use memory_access::Fipa;
+use memory_access::MemoryAccess;
+use memory_access::MemoryAccessKind;
+use simple_map::Lookup;
+use simple_map::SuspendCoreData;
+use stage2::Policy;
+use stage2_range::AlignedUp;
+
+// No range, no region.
+#[no_mangle]
+pub extern "C" fn ritm_fresh_policy(policy: &mut [u8; POLICY_SIZE]) -> u64
+    ensures { λ r. ⌜ (r ≡ 0) × (now (policy .exit) ≡ replicate 1680 0) × (policyAt (now (policy .exit)) ≡ freshPolicy) ⌝ }
+{
+    *policy = [0u8; POLICY_SIZE];
+    0
+}
+
+// Eight fresh cores, and the counter 0.
+#[no_mangle]
+pub extern "C" fn ritm_fresh_cores(cores: &mut [u8; CORES_SIZE]) -> u64
+    ensures { λ r. ⌜ (r ≡ 0)
+        × (now (cores .exit) ≡ replicate 2440 0)
+        × (coresAt (now (cores .exit)) ≡ freshCores)
+        × (counterAt (now (cores .exit)) ≡ 0) ⌝ }
+{
+    *cores = [0u8; CORES_SIZE];
+    0
+}
+
+// No entry.
+#[no_mangle]
+pub extern "C" fn ritm_fresh_map(map: &mut [u8; MAP_SIZE]) -> u64
+    ensures { λ r. ⌜ (r ≡ 0) × (now (map .exit) ≡ replicate 256 0) × (mapAt (now (map .exit)) ≡ emptyMap) ⌝ }
+{
+    *map = [0u8; MAP_SIZE];
+    0
+}
+
+// Allows the guest to access a range directly: refusals 1 to 7.
+#[no_mangle]
+pub extern "C" fn ritm_allow_range(
+    policy: &mut [u8; POLICY_SIZE],
+    base_ipa: u64,
+    size: u64,
+    attributes: u64,
+) -> u64
+    ensures { λ r. ⌜ (r ≡ allowCall (now (policy .entry)) «base_ipa» size attributes .number)
+        × (now (policy .exit) ≡ allowCall (now (policy .entry)) «base_ipa» size attributes .state) ⌝ }
+{
+    let built = layout::get_policy(policy).allow_range(base_ipa, size, attributes);
+    let answer = built.answer;
+    let number = answer.number();
+    if number != 0 {
+        return number;
+    }
+    let next = built.policy;
+    let allowed = next.allowed;
+    layout::put_allowed(policy, allowed, next.allowed_count);
+    0
+}
+
+// Has the guest's accesses to a range handled: refusals 20, 1 to 4, 6, 8, 9.
+#[no_mangle]
+pub extern "C" fn ritm_handle_range(
+    policy: &mut [u8; POLICY_SIZE],
+    base_ipa: u64,
+    size: u64,
+    read: u64,
+    write: u64,
+) -> u64
+    ensures { λ r. ⌜ (r ≡ handleCall (now (policy .entry)) «base_ipa» size read write .number)
+        × (now (policy .exit) ≡ handleCall (now (policy .entry)) «base_ipa» size read write .state) ⌝ }
+{
+    let built = layout::get_policy(policy).handle_range(base_ipa, size, read, write);
+    let answer = built.answer;
+    let number = answer.number();
+    if number != 0 {
+        return number;
+    }
+    let next = built.policy;
+    let regions = next.regions;
+    layout::put_regions(policy, regions, next.region_count);
+    0
+}
+
+// The first region held that has the address: whether there is one, its place and the offset in it.
+#[no_mangle]
+pub extern "C" fn ritm_find(
+    policy: &[u8; POLICY_SIZE],
+    ipa: u64,
+    result: &mut [u8; FIND_RESULT_SIZE],
+) -> u64
+    ensures { λ r. ⌜ (r ≡ findCall (now (policy .entry)) ipa .number)
+        × (now (result .exit) ≡ findCall (now (policy .entry)) ipa .result) ⌝ }
+{
+    let place = layout::find_place(policy, ipa);
+    let held = lists::held_count(layout::get_region_count(policy), 16);
+    if place < held {
+        let offset = ipa - layout::get_region_base(policy, place);
+        layout::put_three(result, 1, place, offset);
+        return 0;
+    }
+    layout::put_three(result, 0, 0, 0);
+    0
+}
+
+const LAST_CORE: u64 = 7;
+
+// Puts in a core's registers as the hardware saved them: refusals 10, 11.
+#[no_mangle]
+pub extern "C" fn ritm_save(
+    cores: &mut [u8; CORES_SIZE],
+    core: u64,
+    registers: &[u8; REGISTERS_SIZE],
+) -> u64
+    ensures { λ r. ⌜ (r ≡ saveCall (now (cores .entry)) core (now (registers .entry)) .number)
+        × (now (cores .exit) ≡ saveCall (now (cores .entry)) core (now (registers .entry)) .state) ⌝ }
+{
+    if LAST_CORE < core {
+        return CoreError::NoSuchCore.number();
+    }
+    let x = layout::get_saved_x(registers);
+    let elr = layout::get_saved_elr(registers);
+    let spsr = layout::get_saved_spsr(registers);
+    let step = hypervisor::save_core(layout::get_core(cores, core), x, elr, spsr);
+    let answer = step.answer;
+    let number = answer.number();
+    if number != 0 {
+        return number;
+    }
+    let after = step.core;
+    layout::put_core(cores, core, after);
+    0
+}
+
+// A trap of one core. The regions are read for a data abort only.
+fn trap_core(policy: &[u8; POLICY_SIZE], core: Core, counter: u64, trap: TrapRegisters) -> TrapStep
+    ensures { λ r. ⌜ r ≡ handleSyncLower (regionsHeld (policyAt (now (policy .entry)))) core counter trap ⌝ }
+{
+    if hypervisor::is_data_abort(trap.esr) {
+        let regions = layout::get_regions(policy);
+        let count = layout::get_region_count(policy);
+        hypervisor::handle_sync_lower(regions, count, core, counter, trap)
+    } else {
+        let fresh = Policy::new();
+        let regions = fresh.regions;
+        hypervisor::handle_sync_lower(regions, 0, core, counter, trap)
+    }
+}
+
+// Takes a core's trap: refusals 10 to 13. The result is the answer's kind and the values of a forwarded call.
+#[no_mangle]
+pub extern "C" fn ritm_trap(
+    policy: &[u8; POLICY_SIZE],
+    cores: &mut [u8; CORES_SIZE],
+    core: u64,
+    esr: u64,
+    fipa: u64,
+    far: u64,
+    vbar: u64,
+    result: &mut [u8; TRAP_RESULT_SIZE],
+) -> u64
+    ensures { λ r. ⌜ (r ≡ trapCall (now (policy .entry)) (now (cores .entry)) core (record { esr = esr; fipa = record { 0 = fipa }; far = far; vbar = vbar }) .number)
+        × (now (cores .exit) ≡ trapCall (now (policy .entry)) (now (cores .entry)) core (record { esr = esr; fipa = record { 0 = fipa }; far = far; vbar = vbar }) .state)
+        × (now (result .exit) ≡ trapCall (now (policy .entry)) (now (cores .entry)) core (record { esr = esr; fipa = record { 0 = fipa }; far = far; vbar = vbar }) .result) ⌝ }
+{
+    if LAST_CORE < core {
+        layout::put_trap_result(result, 0, [0u64; 18]);
+        return CoreError::NoSuchCore.number();
+    }
+    let fipa = Fipa(fipa);
+    let trap = TrapRegisters {
+        esr,
+        fipa,
+        far,
+        vbar,
+    };
+    let one = layout::get_core(cores, core);
+    let counter = layout::get_counter(cores);
+    let step = trap_core(policy, one, counter, trap);
+    let answer = step.answer;
+    let values = step.values;
+    layout::put_trap_result(result, answer.kind(), values);
+    let number = answer.number();
+    if number != 0 {
+        return number;
+    }
+    let after = step.core;
+    layout::put_core(cores, core, after);
+    layout::put_counter(cores, step.counter);
+    0
+}
+
+// Gives a core the answer that it waits for: refusals 10, 14, 15.
+#[no_mangle]
+pub extern "C" fn ritm_reply(
+    cores: &mut [u8; CORES_SIZE],
+    core: u64,
+    kind: u64,
+    values: &[u8; VALUES_SIZE],
+    error: i32,
+) -> u64
+    ensures { λ r. ⌜ (r ≡ replyCall (now (cores .entry)) core kind (now (values .entry)) error .number)
+        × (now (cores .exit) ≡ replyCall (now (cores .entry)) core kind (now (values .entry)) error .state) ⌝ }
+{
+    if LAST_CORE < core {
+        return CoreError::NoSuchCore.number();
+    }
+    let values = layout::get_values(values);
+    let reply = HvcReply {
+        kind,
+        values,
+        error,
+    };
+    let replied = forwarded_call::reply_core(layout::get_core(cores, core), reply);
+    let answer = replied.answer;
+    let number = answer.number();
+    if number != 0 {
+        return number;
+    }
+    let after = replied.core;
+    layout::put_core(cores, core, after);
+    0
+}
+
+// The value that was read, and 0 in a refusal.
+fn read_value(read: GprRead) -> u64
+    ensures { λ r. ⌜ r ≡ readValue read ⌝ }
+{
+    match read {
+        GprRead::Value(value) => value,
+        GprRead::NoSuchRegister => 0,
+    }
+}
+
+// The value of a guest register: refusals 10, 17.
+#[no_mangle]
+pub extern "C" fn ritm_read_gpr(
+    cores: &[u8; CORES_SIZE],
+    core: u64,
+    index: u64,
+    result: &mut [u8; WORD_RESULT_SIZE],
+) -> u64
+    ensures { λ r. ⌜ (r ≡ readCall (now (cores .entry)) core index .number)
+        × (now (result .exit) ≡ readCall (now (cores .entry)) core index .result) ⌝ }
+{
+    if LAST_CORE < core {
+        layout::put_one_word(result, 0);
+        return CoreError::NoSuchCore.number();
+    }
+    let read = layout::get_core(cores, core).read_gpr(index as usize);
+    layout::put_one_word(result, read_value(read));
+    read.number()
+}
+
+// Writes a guest register: refusals 10, 17.
+#[no_mangle]
+pub extern "C" fn ritm_write_gpr(
+    cores: &mut [u8; CORES_SIZE],
+    core: u64,
+    index: u64,
+    value: u64,
+) -> u64
+    ensures { λ r. ⌜ (r ≡ writeCall (now (cores .entry)) core index value .number)
+        × (now (cores .exit) ≡ writeCall (now (cores .entry)) core index value .state) ⌝ }
+{
+    if LAST_CORE < core {
+        return CoreError::NoSuchCore.number();
+    }
+    let written = layout::get_core(cores, core).write_gpr(index as usize, value);
+    let answer = written.answer;
+    let number = answer.number();
+    if number != 0 {
+        return number;
+    }
+    let after = written.core;
+    layout::put_core(cores, core, after);
+    0
+}
+
+// Holds an entry under a key, in place of the key's last one: refusal 16.
+#[no_mangle]
+pub extern "C" fn ritm_insert(
+    map: &mut [u8; MAP_SIZE],
+    key: u64,
+    entry_point: u64,
+    context_id: u64,
+) -> u64
+    ensures { λ r. ⌜ (r ≡ insertCall (now (map .entry)) key «entry_point» «context_id» .number)
+        × (now (map .exit) ≡ insertCall (now (map .entry)) key «entry_point» «context_id» .state) ⌝ }
+{
+    let value = SuspendCoreData {
+        entry_point,
+        context_id,
+    };
+    let inserted = layout::get_map(map).insert(key, value);
+    let answer = inserted.answer;
+    let number = answer.number();
+    if number != 0 {
+        return number;
+    }
+    let next = inserted.map;
+    let items = next.items;
+    layout::put_places(map, items);
+    0
+}
+
+// A look-up's answer: whether there is an entry, its entry point and its context id.
+fn put_lookup(result: &mut [u8; ENTRY_RESULT_SIZE], lookup: Lookup)
+    ensures { λ _. ⌜ now (result .exit) ≡ bytesOf (entryWords lookup) ⌝ }
+{
+    match lookup {
+        Lookup::Nothing => layout::put_three(result, 0, 0, 0),
+        Lookup::Value(value) => layout::put_three(result, 1, value.entry_point, value.context_id),
+    }
+}
+
+// The entry of a key: whether there is one, its entry point and its context id.
+#[no_mangle]
+pub extern "C" fn ritm_get(
+    map: &[u8; MAP_SIZE],
+    key: u64,
+    result: &mut [u8; ENTRY_RESULT_SIZE],
+) -> u64
+    ensures { λ r. ⌜ (r ≡ getCall (now (map .entry)) key .number)
+        × (now (result .exit) ≡ getCall (now (map .entry)) key .result) ⌝ }
+{
+    put_lookup(result, layout::get_map(map).get(key));
+    0
+}
+
+// The same, and the entry is held no more.
+#[no_mangle]
+pub extern "C" fn ritm_remove(
+    map: &mut [u8; MAP_SIZE],
+    key: u64,
+    result: &mut [u8; ENTRY_RESULT_SIZE],
+) -> u64
+    ensures { λ r. ⌜ (r ≡ removeCall (now (map .entry)) key .number)
+        × (now (map .exit) ≡ removeCall (now (map .entry)) key .state)
+        × (now (result .exit) ≡ removeCall (now (map .entry)) key .result) ⌝ }
+{
+    let removed = layout::get_map(map).remove(key);
+    let lookup = removed.removed;
+    put_lookup(result, lookup);
+    let next = removed.map;
+    let items = next.items;
+    layout::put_places(map, items);
+    0
+}
+
+// A test as a number.
+fn flag(test: bool) -> u64
+    ensures { λ r. ⌜ r ≡ flagNumber test ⌝ }
+{
+    if test { 1 } else { 0 }
+}
+
+// The access that a syndrome describes: IPA, bits, WnR, Rt, SSE, SF; refusal 19.
+#[no_mangle]
+pub extern "C" fn ritm_decode(
+    iss: u32,
+    fipa: u64,
+    far: u64,
+    result: &mut [u8; ACCESS_RESULT_SIZE],
+) -> u64
+    ensures { λ r. ⌜ (r ≡ decodeCall iss fipa far .number)
+        × (now (result .exit) ≡ decodeCall iss fipa far .result) ⌝ }
+{
+    match MemoryAccess::decode(iss, Fipa(fipa), far) {
+        Decoded::Access(access) => {
+            let ipa = access.ipa;
+            let width = access.width;
+            let kind = access.kind;
+            layout::put_six(
+                result,
+                ipa.0,
+                width.bits() as u64,
+                kind_number(kind),
+                access.register_index as u64,
+                flag(access.sign_extend),
+                flag(access.register_width_64),
+            );
+            0
+        }
+        Decoded::NoSyndrome => {
+            layout::put_six(result, 0, 0, 0, 0, 0, 0);
+            Decoded::NoSyndrome.number()
+        }
+    }
+}
+
+// A direction as a number: WnR.
+fn kind_number(kind: MemoryAccessKind) -> u64
+    ensures { λ r. ⌜ r ≡ kindNumber kind ⌝ }
+{
+    match kind {
+        MemoryAccessKind::Read => 0,
+        MemoryAccessKind::Write => 1,
+    }
+}
+
+// What a load with this syndrome puts into its register, of the value that was read: refusal 19.
+#[no_mangle]
+pub extern "C" fn ritm_extend_read_result(
+    iss: u32,
+    value: u64,
+    result: &mut [u8; WORD_RESULT_SIZE],
+) -> u64
+    ensures { λ r. ⌜ (r ≡ extendCall iss value .number)
+        × (now (result .exit) ≡ extendCall iss value .result) ⌝ }
+{
+    match MemoryAccess::decode(iss, Fipa(0), 0) {
+        Decoded::Access(access) => {
+            layout::put_one_word(result, access.extend_read_result(value));
+            0
+        }
+        Decoded::NoSyndrome => {
+            layout::put_one_word(result, 0);
+            Decoded::NoSyndrome.number()
+        }
+    }
+}
+
+// The page boundary at or below an address.
+#[no_mangle]
+pub extern "C" fn ritm_align_down_to_page(address: u64, result: &mut [u8; WORD_RESULT_SIZE]) -> u64
+    ensures { λ r. ⌜ (r ≡ alignDownCall address .number)
+        × (now (result .exit) ≡ alignDownCall address .result) ⌝ }
+{
+    layout::put_one_word(result, stage2_range::align_down_to_page(address));
+    0
+}
+
+// The page boundary at or above an address: refusal 18.
+#[no_mangle]
+pub extern "C" fn ritm_align_up_to_page(address: u64, result: &mut [u8; WORD_RESULT_SIZE]) -> u64
+    ensures { λ r. ⌜ (r ≡ alignUpCall address .number)
+        × (now (result .exit) ≡ alignUpCall address .result) ⌝ }
+{
+    match stage2_range::align_up_to_page(address) {
+        AlignedUp::Address(aligned) => {
+            layout::put_one_word(result, aligned);
+            0
+        }
+        AlignedUp::NoPageAbove => {
+            layout::put_one_word(result, 0);
+            AlignedUp::NoPageAbove.number()
+        }
+    }
+}
+
+// The length in bytes of a lent buffer by its number, and 0 where there is none.
+#[no_mangle]
+pub extern "C" fn ritm_buffer_size(buffer: u64) -> u64
+    ensures { λ r. ⌜ r ≡ bufferSize buffer ⌝ }
+{
+    let sizes = [
+        POLICY_SIZE as u64,
+        CORES_SIZE as u64,
+        MAP_SIZE as u64,
+        REGISTERS_SIZE as u64,
+        VALUES_SIZE as u64,
+        TRAP_RESULT_SIZE as u64,
+        FIND_RESULT_SIZE as u64,
+        ENTRY_RESULT_SIZE as u64,
+        ACCESS_RESULT_SIZE as u64,
+        WORD_RESULT_SIZE as u64,
+    ];
+    if buffer < 10 {
+        sizes[buffer as usize]
+    } else {
+        0
+    }
+}
