@@ -1,0 +1,315 @@
+/*
+ * The C interface of Malfroek: RITM's stage-2 policy, guest traps and suspend map, as a proved static archive.
+ *
+ * All state is the caller's. It stands in byte buffers of fixed sizes that hold little-endian 64-bit words. No
+ * alignment is asked for, any bytes are a valid state, and an unknown code in them reads as 0. The buffers of one call
+ * must not overlap. No function keeps a pointer. The archive calls memcpy, memmove and memset, and nothing else.
+ *
+ * Every function returns RITM_ACCEPTED or the number of a refusal (enum ritm_refusal); ritm_buffer_size alone returns
+ * a size. Where several refusals apply, the first in the order given at the function is returned. A refusal leaves
+ * every state buffer as it was. A result buffer is written whole on every call, zeros where there is nothing.
+ */
+#ifndef RITM_H
+#define RITM_H
+
+#include <stddef.h>
+#include <stdint.h>
+
+#ifdef __cplusplus
+extern "C" {
+#endif
+
+/* How much the state holds. */
+#define RITM_MAX_ALLOWED_RANGES 32
+#define RITM_MAX_MEMORY_ACCESS_HANDLERS 16
+#define RITM_MAX_CORES 8
+#define RITM_MAX_SUSPENDED_CORES 8
+
+/* The sizes of the buffers, in bytes. */
+#define RITM_POLICY_SIZE 1680
+#define RITM_CORES_SIZE 2440
+#define RITM_MAP_SIZE 256
+#define RITM_REGISTERS_SIZE 264
+#define RITM_VALUES_SIZE 144
+#define RITM_TRAP_RESULT_SIZE 152
+#define RITM_FIND_RESULT_SIZE 24
+#define RITM_ENTRY_RESULT_SIZE 24
+#define RITM_ACCESS_RESULT_SIZE 48
+#define RITM_WORD_RESULT_SIZE 8
+
+/* The number of each buffer, for ritm_buffer_size. */
+enum ritm_buffer {
+    RITM_BUFFER_POLICY = 0,
+    RITM_BUFFER_CORES = 1,
+    RITM_BUFFER_MAP = 2,
+    RITM_BUFFER_REGISTERS = 3,
+    RITM_BUFFER_VALUES = 4,
+    RITM_BUFFER_TRAP_RESULT = 5,
+    RITM_BUFFER_FIND_RESULT = 6,
+    RITM_BUFFER_ENTRY_RESULT = 7,
+    RITM_BUFFER_ACCESS_RESULT = 8,
+    RITM_BUFFER_WORD_RESULT = 9
+};
+
+/* What a function returns. */
+enum ritm_refusal {
+    RITM_ACCEPTED = 0,
+    /* The base is not a multiple of 4096. */
+    RITM_RANGE_BASE_NOT_PAGE_ALIGNED = 1,
+    /* The size is 0. */
+    RITM_EMPTY_RANGE = 2,
+    /* The size is not a multiple of 4096. */
+    RITM_RANGE_SIZE_NOT_PAGE_MULTIPLE = 3,
+    /* Base + size is 2^64 or more. */
+    RITM_RANGE_END_OVERFLOW = 4,
+    /* 32 ranges are allowed already. */
+    RITM_TOO_MANY_ALLOWED_RANGES = 5,
+    /* The range shares a byte with an allowed range. */
+    RITM_ALLOWED_RANGE_OVERLAP = 6,
+    /* The range to allow shares a byte with a region. */
+    RITM_ALLOWED_RANGE_OVERLAPS_MEMORY_ACCESS_HANDLER = 7,
+    /* 16 regions are handled already. */
+    RITM_TOO_MANY_MEMORY_ACCESS_HANDLER_REGIONS = 8,
+    /* The range to handle shares a byte with a region. */
+    RITM_MEMORY_ACCESS_HANDLER_RANGE_OVERLAP = 9,
+    /* The core's number is above 7. */
+    RITM_NO_SUCH_CORE = 10,
+    /* A trap or a save while the core waits for a reply. */
+    RITM_CORE_WAITING = 11,
+    /* ESR_EL2's EC is none of 0x16, 0x17 and 0x24. */
+    RITM_UNEXPECTED_EXCEPTION_CLASS = 12,
+    /* An abort is to be injected and VBAR_EL1 is 0. */
+    RITM_NO_GUEST_VECTOR = 13,
+    /* A reply to a core that waits for none. */
+    RITM_NOTHING_WAITING = 14,
+    /* The reply's kind is above 4, or neither 1 nor 4 for a call to the firmware. */
+    RITM_UNKNOWN_REPLY_KIND = 15,
+    /* The key is not held and all 8 places of the suspend map are taken. */
+    RITM_CAPACITY_EXCEEDED = 16,
+    /* The register's index is above 31. */
+    RITM_NO_SUCH_REGISTER = 17,
+    /* No page boundary above the address is below 2^64. */
+    RITM_NO_PAGE_ABOVE = 18,
+    /* The ISS has ISV clear. */
+    RITM_NO_SYNDROME = 19,
+    /* A handler's number is neither 0 nor 1. */
+    RITM_UNKNOWN_MEMORY_HANDLER = 20
+};
+
+/* Who serves the loads or the stores of a region. */
+enum ritm_memory_handler {
+    RITM_HANDLER_ABSENT = 0,
+    RITM_HANDLER_FILTERED_MMIO = 1
+};
+
+/* What a core waits for: the reply to a forwarded call, by its conduit and its recipient. */
+enum ritm_wait {
+    RITM_WAIT_NOTHING = 0,
+    RITM_WAIT_HVC_FIRMWARE = 1,
+    RITM_WAIT_HVC_PLATFORM = 2,
+    RITM_WAIT_SMC_FIRMWARE = 3,
+    RITM_WAIT_SMC_PLATFORM = 4
+};
+
+/* What an accepted trap came to; 0 stands in the result of a refused one. */
+enum ritm_trap_kind {
+    RITM_TRAP_REFUSED = 0,
+    RITM_TRAP_LOAD_HANDLED = 1,
+    RITM_TRAP_STORE_HANDLED = 2,
+    RITM_TRAP_ABORT_INJECTED = 3,
+    RITM_TRAP_TO_FIRMWARE = 4,
+    RITM_TRAP_TO_PLATFORM = 5
+};
+
+/* The kinds of a reply, and the registers that each writes. */
+enum ritm_reply_kind {
+    /* Acts as the error -1, SMCCC's NOT_SUPPORTED. */
+    RITM_REPLY_UNHANDLED = 0,
+    /* The first value to x0, zero to x1, x2 and x3. */
+    RITM_REPLY_VALUE = 1,
+    /* Four values to x0 to x3. */
+    RITM_REPLY_SUCCESS = 2,
+    /* Eighteen values to x0 to x17. */
+    RITM_REPLY_SUCCESS_LARGE = 3,
+    /* The error, sign-extended, to x0. */
+    RITM_REPLY_ERROR = 4
+};
+
+/*
+ * Places of words. "Word k" of a buffer is its bytes 8 * k to 8 * k + 7; see ritm_get_word. A count above its limit
+ * reads as the limit. Places past a count, and the words of a free place of the suspend map, may hold anything.
+ */
+
+/* Policy: allowed range k stands at word RITM_POLICY_ALLOWED + k * RITM_ALLOWED_WORDS, in order of arrival. */
+#define RITM_POLICY_ALLOWED 0
+#define RITM_ALLOWED_WORDS 4
+#define RITM_ALLOWED_BASE 0
+#define RITM_ALLOWED_SIZE 1
+#define RITM_ALLOWED_END 2
+#define RITM_ALLOWED_ATTRIBUTES 3
+#define RITM_POLICY_ALLOWED_COUNT 128
+
+/* Policy: region k, a range whose accesses are handled, stands at word RITM_POLICY_REGIONS + k * RITM_REGION_WORDS,
+   ascending by base. */
+#define RITM_POLICY_REGIONS 129
+#define RITM_REGION_WORDS 5
+#define RITM_REGION_BASE 0
+#define RITM_REGION_SIZE 1
+#define RITM_REGION_END 2
+#define RITM_REGION_READ 3
+#define RITM_REGION_WRITE 4
+#define RITM_POLICY_REGION_COUNT 209
+
+/* Cores: core i stands at word i * RITM_CORE_WORDS. Its first words are those of the registers buffer. */
+#define RITM_CORE_WORDS 38
+#define RITM_CORE_X 0
+#define RITM_CORE_ELR 31
+#define RITM_CORE_SPSR 32
+#define RITM_CORE_ELR_EL1 33
+#define RITM_CORE_SPSR_EL1 34
+#define RITM_CORE_FAR_EL1 35
+#define RITM_CORE_ESR_EL1 36
+#define RITM_CORE_WAIT 37
+/* The counter of the filtered MMIO page stands after the cores, and is one for all of them. */
+#define RITM_CORES_COUNTER 304
+
+/* Suspend map: place k stands at word k * RITM_MAP_WORDS. It is taken where its first word is 1. */
+#define RITM_MAP_WORDS 4
+#define RITM_MAP_TAKEN 0
+#define RITM_MAP_KEY 1
+#define RITM_MAP_ENTRY_POINT 2
+#define RITM_MAP_CONTEXT_ID 3
+
+/* Registers: x0 to x30, ELR and SPSR as the hardware saved them. */
+#define RITM_REGISTERS_X 0
+#define RITM_REGISTERS_ELR 31
+#define RITM_REGISTERS_SPSR 32
+
+/* Values of a reply: as many from the first on as its kind uses. */
+#define RITM_VALUES_COUNT 18
+
+/* Trap result: the kind, then x0 to x3 for the firmware or x0 to x17 for the platform. */
+#define RITM_TRAP_KIND 0
+#define RITM_TRAP_VALUES 1
+
+/* Find result. */
+#define RITM_FIND_FOUND 0
+#define RITM_FIND_INDEX 1
+#define RITM_FIND_OFFSET 2
+
+/* Entry result. */
+#define RITM_ENTRY_FOUND 0
+#define RITM_ENTRY_ENTRY_POINT 1
+#define RITM_ENTRY_CONTEXT_ID 2
+
+/* Access result: width in bits, WnR 0 for a load and 1 for a store. */
+#define RITM_ACCESS_IPA 0
+#define RITM_ACCESS_WIDTH 1
+#define RITM_ACCESS_WNR 2
+#define RITM_ACCESS_RT 3
+#define RITM_ACCESS_SSE 4
+#define RITM_ACCESS_SF 5
+
+/* Word k of a buffer. */
+static inline uint64_t ritm_get_word(const uint8_t *bytes, size_t k)
+{
+    uint64_t word = 0;
+    for (size_t i = 8; i > 0; i--) {
+        word = word << 8 | bytes[8 * k + i - 1];
+    }
+    return word;
+}
+
+/* Sets word k of a buffer. */
+static inline void ritm_put_word(uint8_t *bytes, size_t k, uint64_t word)
+{
+    for (size_t i = 0; i < 8; i++) {
+        bytes[8 * k + i] = (uint8_t)(word >> (8 * i));
+    }
+}
+
+/*
+ * The stage-2 policy.
+ */
+
+/* Makes the policy fresh: no range, no region. */
+uint64_t ritm_fresh_policy(uint8_t policy[RITM_POLICY_SIZE]);
+
+/* Allows the guest direct access to a range, with any attribute word. Refusals 1 to 7. */
+uint64_t ritm_allow_range(uint8_t policy[RITM_POLICY_SIZE], uint64_t base_ipa, uint64_t size, uint64_t attributes);
+
+/* Has the guest's accesses to a range handled, loads by one handler and stores by another (enum ritm_memory_handler).
+   Refusals 20, 1 to 4, 6, 8, 9. */
+uint64_t ritm_handle_range(uint8_t policy[RITM_POLICY_SIZE], uint64_t base_ipa, uint64_t size, uint64_t read,
+                           uint64_t write);
+
+/* Finds the first region with the address, and the offset in it. No refusal: none is found 0. */
+uint64_t ritm_find(const uint8_t policy[RITM_POLICY_SIZE], uint64_t ipa, uint8_t found[RITM_FIND_RESULT_SIZE]);
+
+/*
+ * The cores.
+ */
+
+/* Makes the eight cores fresh: all zero, waiting for nothing; the counter too. */
+uint64_t ritm_fresh_cores(uint8_t cores[RITM_CORES_SIZE]);
+
+/* Puts in a core's registers as the hardware saved them. Refusals 10, 11. */
+uint64_t ritm_save(uint8_t cores[RITM_CORES_SIZE], uint64_t core, const uint8_t registers[RITM_REGISTERS_SIZE]);
+
+/* Takes a core's trap: ESR_EL2, the FIPA of HPFAR_EL2 (a page number), FAR_EL2, and the guest's VBAR_EL1. The core
+   then goes on from its registers, or waits for the reply to a forwarded call. Refusals 10 to 13. */
+uint64_t ritm_trap(const uint8_t policy[RITM_POLICY_SIZE], uint8_t cores[RITM_CORES_SIZE], uint64_t core, uint64_t esr,
+                   uint64_t fipa, uint64_t far, uint64_t vbar, uint8_t trapped[RITM_TRAP_RESULT_SIZE]);
+
+/* Gives a core the reply that it waits for (enum ritm_reply_kind). Values and error are read only where the kind uses
+   them. Refusals 10, 14, 15. */
+uint64_t ritm_reply(uint8_t cores[RITM_CORES_SIZE], uint64_t core, uint64_t kind,
+                    const uint8_t values[RITM_VALUES_SIZE], int32_t error);
+
+/* Reads a core's register: x0 to x30 by their index, and 0 for index 31. Refusals 10, 17. */
+uint64_t ritm_read_gpr(const uint8_t cores[RITM_CORES_SIZE], uint64_t core, uint64_t index,
+                       uint8_t word[RITM_WORD_RESULT_SIZE]);
+
+/* Writes a core's register, whether it waits or not; index 31 takes no write. Refusals 10, 17. */
+uint64_t ritm_write_gpr(uint8_t cores[RITM_CORES_SIZE], uint64_t core, uint64_t index, uint64_t value);
+
+/*
+ * The suspend map.
+ */
+
+/* Makes the map fresh: every place free. */
+uint64_t ritm_fresh_map(uint8_t map[RITM_MAP_SIZE]);
+
+/* Removes the first entry with the key, then puts the new one into the first free place. Refusal 16. */
+uint64_t ritm_insert(uint8_t map[RITM_MAP_SIZE], uint64_t key, uint64_t entry_point, uint64_t context_id);
+
+/* Looks up the first entry with the key. No refusal: none is found 0. */
+uint64_t ritm_get(const uint8_t map[RITM_MAP_SIZE], uint64_t key, uint8_t entry[RITM_ENTRY_RESULT_SIZE]);
+
+/* Removes the first entry with the key, and gives it. No refusal: none is found 0. */
+uint64_t ritm_remove(uint8_t map[RITM_MAP_SIZE], uint64_t key, uint8_t entry[RITM_ENTRY_RESULT_SIZE]);
+
+/*
+ * Their parts.
+ */
+
+/* Decodes the access that a data abort's ISS describes. Refusal 19. */
+uint64_t ritm_decode(uint32_t iss, uint64_t fipa, uint64_t far, uint8_t access[RITM_ACCESS_RESULT_SIZE]);
+
+/* The loaded value as the access of this ISS puts it into its register. Refusal 19. */
+uint64_t ritm_extend_read_result(uint32_t iss, uint64_t value, uint8_t word[RITM_WORD_RESULT_SIZE]);
+
+/* Rounds an address down to a page boundary. No refusal. */
+uint64_t ritm_align_down_to_page(uint64_t address, uint8_t word[RITM_WORD_RESULT_SIZE]);
+
+/* Rounds an address up to a page boundary. Refusal 18. */
+uint64_t ritm_align_up_to_page(uint64_t address, uint8_t word[RITM_WORD_RESULT_SIZE]);
+
+/* The size in bytes of a buffer by its number (enum ritm_buffer), and 0 for any other number. */
+uint64_t ritm_buffer_size(uint64_t buffer);
+
+#ifdef __cplusplus
+}
+#endif
+
+#endif
