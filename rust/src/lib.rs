@@ -1,0 +1,123 @@
+//! Malfroek for hosts in Rust: RITM's stage-2 policy, guest traps and suspend map, as a proved
+//! static archive behind safe types.
+//!
+//! State stands in [`Policy`], [`Cores`] and [`SuspendMap`], each an array of bytes with a fixed
+//! layout that `include/ritm.h` gives. Each call answers, or is refused with a [`Refusal`] and then
+//! changes nothing.
+//!
+//! The build links `libritm.a` from the folder that the environment variable `RITM_LIB_DIR` names,
+//! by default `target/staticlib` beside this crate, where `rt staticlib ritm` puts it. It is made
+//! for x86-64 Linux.
+
+#![no_std]
+#![deny(missing_docs, unsafe_code, unsafe_op_in_unsafe_fn)]
+
+mod cores;
+#[allow(unsafe_code)]
+pub mod ffi;
+mod memory_access;
+mod policy;
+mod refusal;
+mod suspend_map;
+mod words;
+
+pub use cores::{
+    Conduit, Cores, FaultRegisters, HvcReply, Recipient, Registers, TrapAnswer, TrapRegisters, Wait, MAX_CORES,
+};
+pub use memory_access::{
+    align_down_to_page, align_up_to_page, decode, extend_read_result, MemoryAccess, MemoryAccessKind,
+};
+pub use policy::{
+    MemoryAccessHandler, MemoryAccessRegion, MemoryHandler, Policy, RegionMatch, Stage2Range, MAX_ALLOWED_RANGES,
+    MAX_MEMORY_ACCESS_HANDLERS,
+};
+pub use refusal::{NoRefusal, Refusal};
+pub use suspend_map::{SuspendCoreData, SuspendMap};
+
+#[cfg(test)]
+mod tests {
+    use super::*;
+
+    #[test]
+    fn refusals_are_the_numbers_from_1_to_20() {
+        for number in 1..=20 {
+            assert_eq!(Refusal::try_from(number).map(Refusal::number), Ok(number));
+        }
+        for number in [0, 21, u64::MAX] {
+            assert_eq!(Refusal::try_from(number), Err(NoRefusal(number)));
+        }
+    }
+
+    #[test]
+    fn sizes_are_the_archives() {
+        let sizes = [
+            ffi::POLICY_SIZE,
+            ffi::CORES_SIZE,
+            ffi::MAP_SIZE,
+            ffi::REGISTERS_SIZE,
+            ffi::VALUES_SIZE,
+            ffi::TRAP_RESULT_SIZE,
+            ffi::FIND_RESULT_SIZE,
+            ffi::ENTRY_RESULT_SIZE,
+            ffi::ACCESS_RESULT_SIZE,
+            ffi::WORD_RESULT_SIZE,
+        ];
+        for (buffer, size) in (0..).zip(sizes) {
+            assert_eq!(ffi::ritm_buffer_size(buffer), size as u64);
+        }
+        assert_eq!(ffi::ritm_buffer_size(sizes.len() as u64), 0);
+    }
+
+    #[test]
+    fn a_policy_reads_back() {
+        let mut policy = Policy::new();
+        policy.allow_range(0x3000, 0x2000, 0x7fd).unwrap();
+        policy.allow_range(0x1000, 0x1000, 0x4c1).unwrap();
+        let read_only = MemoryAccessHandler { read: MemoryHandler::FilteredMmio, write: MemoryHandler::Absent };
+        policy.handle_range(0x9000, 0x1000, MemoryAccessHandler::FILTERED_MMIO).unwrap();
+        policy.handle_range(0x8000, 0x1000, read_only).unwrap();
+        assert!(policy.allowed_ranges().map(|range| range.attributes).eq([0x7fd, 0x4c1]));
+        assert!(policy.regions().map(|region| region.end_ipa).eq([0x9000, 0xa000]));
+        assert_eq!(policy.regions().next().map(|region| region.handler), Some(read_only));
+        assert_eq!(Policy::from_bytes(*policy.as_bytes()), policy);
+    }
+
+    #[test]
+    fn a_core_reads_back() {
+        let mut cores = Cores::new();
+        let registers = Registers { x: core::array::from_fn(|i| i as u64), elr: 31, spsr: 32 };
+        cores.save(7, &registers).unwrap();
+        assert_eq!(cores.registers(7), Ok(registers));
+        assert_eq!(cores.registers(8), Err(Refusal::NoSuchCore));
+        let hvc = TrapRegisters { esr: 0x16 << 26, ..TrapRegisters::default() };
+        let values = core::array::from_fn(|i| i as u64);
+        assert_eq!(cores.trap(7, &Policy::new(), &hvc), Ok(TrapAnswer::ToPlatform(values)));
+        assert_eq!(cores.wait(7), Ok(Wait::Call(Conduit::Hvc, Recipient::Platform)));
+        cores.reply(7, &HvcReply::Error(-3)).unwrap();
+        assert_eq!(cores.read_gpr(7, 0), Ok(u64::MAX - 2));
+        assert_eq!(cores.wait(7), Ok(Wait::Nothing));
+    }
+
+    #[test]
+    fn an_abort_without_a_region_is_injected() {
+        let mut cores = Cores::new();
+        let abort = TrapRegisters { esr: 0x93C5_8000, fipa: 0xF000, far: 0x10, vbar: 0x8_0000 };
+        assert_eq!(cores.trap(0, &Policy::new(), &abort), Ok(TrapAnswer::AbortInjected));
+        assert_eq!(cores.registers(0).unwrap().elr, 0x8_0200);
+        assert_eq!(cores.fault_registers(0).unwrap().esr, 0x97C5_8000);
+        assert_eq!(cores.counter(), 0);
+    }
+
+    #[test]
+    fn an_access_is_decoded() {
+        let access = decode(0x01C5_8000, 0xF000, 0x0ABC_D010).unwrap();
+        assert_eq!((access.ipa, access.width, access.register_index), (0x0F00_0010, 64, 5));
+        assert_eq!(access.kind, MemoryAccessKind::Read);
+        assert!(access.register_width_64 && !access.sign_extend);
+        assert_eq!(decode(0x00C5_8000, 0, 0), Err(Refusal::NoSyndrome));
+        assert_eq!(extend_read_result(0x0120_8000, 0x80), Ok(0xFFFF_FFFF_FFFF_FF80));
+        assert_eq!(align_down_to_page(0x1FFF), 0x1000);
+        assert_eq!(align_up_to_page(0x1001), Ok(0x2000));
+        assert_eq!(align_up_to_page(u64::MAX), Err(Refusal::NoPageAbove));
+    }
+}

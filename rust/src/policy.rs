@@ -1,0 +1,186 @@
+//! The stage-2 policy.
+
+use crate::ffi;
+use crate::refusal::{accepted, never_refused, Refusal};
+use crate::words;
+
+/// The most ranges that a policy allows.
+pub const MAX_ALLOWED_RANGES: usize = 32;
+/// The most regions that a policy handles.
+pub const MAX_MEMORY_ACCESS_HANDLERS: usize = 16;
+
+const ALLOWED_WORDS: usize = 4;
+const ALLOWED_COUNT: usize = MAX_ALLOWED_RANGES * ALLOWED_WORDS;
+const REGIONS: usize = ALLOWED_COUNT + 1;
+const REGION_WORDS: usize = 5;
+const REGION_COUNT: usize = REGIONS + MAX_MEMORY_ACCESS_HANDLERS * REGION_WORDS;
+
+/// Who serves the loads or the stores of a region.
+#[derive(Clone, Copy, Debug, Eq, PartialEq)]
+#[repr(u64)]
+pub enum MemoryHandler {
+    /// Nobody: the guest gets the abort.
+    Absent = 0,
+    /// The filtered MMIO page of RITM's QEMU platform.
+    FilteredMmio = 1,
+}
+
+impl MemoryHandler {
+    /// The handler of a code in a policy's bytes: an unknown one reads as absent.
+    fn from_code(code: u64) -> Self {
+        match code {
+            1 => Self::FilteredMmio,
+            _ => Self::Absent,
+        }
+    }
+}
+
+/// The handlers of a region, one for loads and one for stores.
+#[derive(Clone, Copy, Debug, Eq, PartialEq)]
+pub struct MemoryAccessHandler {
+    /// Serves the loads.
+    pub read: MemoryHandler,
+    /// Serves the stores.
+    pub write: MemoryHandler,
+}
+
+impl MemoryAccessHandler {
+    /// The filtered MMIO page, for loads and stores.
+    pub const FILTERED_MMIO: Self = Self { read: MemoryHandler::FilteredMmio, write: MemoryHandler::FilteredMmio };
+}
+
+/// A range that the guest may access directly.
+#[derive(Clone, Copy, Debug, Eq, PartialEq)]
+pub struct Stage2Range {
+    /// Its first address.
+    pub base_ipa: u64,
+    /// Its size in bytes.
+    pub size: u64,
+    /// The first address after it.
+    pub end_ipa: u64,
+    /// The attribute word of its page table entries.
+    pub attributes: u64,
+}
+
+/// A range whose accesses are handled.
+#[derive(Clone, Copy, Debug, Eq, PartialEq)]
+pub struct MemoryAccessRegion {
+    /// Its first address.
+    pub base_ipa: u64,
+    /// Its size in bytes.
+    pub size: u64,
+    /// The first address after it.
+    pub end_ipa: u64,
+    /// Who handles them.
+    pub handler: MemoryAccessHandler,
+}
+
+/// Where an address was found.
+#[derive(Clone, Copy, Debug, Eq, PartialEq)]
+pub struct RegionMatch {
+    /// The place of the region in [`Policy::regions`].
+    pub index: usize,
+    /// The offset of the address from the region's base.
+    pub offset: u64,
+}
+
+/// The stage-2 policy: the ranges that the guest may access directly, and the regions whose
+/// accesses are handled.
+///
+/// ```
+/// use ritm::{MemoryAccessHandler, Policy, Refusal};
+///
+/// let mut policy = Policy::new();
+/// policy.allow_range(0x4000_0000, 0x1000_0000, 0x7fd)?;
+/// policy.handle_range(0x0f00_0000, 0x1000, MemoryAccessHandler::FILTERED_MMIO)?;
+/// assert_eq!(policy.find(0x0f00_0fff).unwrap().offset, 4095);
+/// assert_eq!(policy.find(0x0f00_1000), None);
+/// assert_eq!(policy.allow_range(0x4fff_f000, 0x1000, 0x7fd), Err(Refusal::AllowedRangeOverlap));
+/// # Ok::<(), Refusal>(())
+/// ```
+#[derive(Clone, Debug, Eq, PartialEq)]
+pub struct Policy([u8; ffi::POLICY_SIZE]);
+
+impl Policy {
+    /// The fresh policy: no range, no region.
+    #[must_use]
+    pub fn new() -> Self {
+        let mut bytes = [0; ffi::POLICY_SIZE];
+        never_refused(ffi::ritm_fresh_policy(&mut bytes));
+        Self(bytes)
+    }
+
+    /// The policy that stands in these bytes. Any bytes are one.
+    #[must_use]
+    pub fn from_bytes(bytes: [u8; ffi::POLICY_SIZE]) -> Self {
+        Self(bytes)
+    }
+
+    /// Its bytes.
+    #[must_use]
+    pub fn as_bytes(&self) -> &[u8; ffi::POLICY_SIZE] {
+        &self.0
+    }
+
+    /// Allows the guest direct access to a range, with any attribute word.
+    ///
+    /// # Errors
+    ///
+    /// Refusals 1 to 7, the first that applies.
+    pub fn allow_range(&mut self, base_ipa: u64, size: u64, attributes: u64) -> Result<(), Refusal> {
+        accepted(ffi::ritm_allow_range(&mut self.0, base_ipa, size, attributes))
+    }
+
+    /// Has the guest's accesses to a range handled.
+    ///
+    /// # Errors
+    ///
+    /// Refusals 1 to 4, 6, 8, 9, the first that applies.
+    pub fn handle_range(&mut self, base_ipa: u64, size: u64, handler: MemoryAccessHandler) -> Result<(), Refusal> {
+        accepted(ffi::ritm_handle_range(&mut self.0, base_ipa, size, handler.read as u64, handler.write as u64))
+    }
+
+    /// The first region that has the address.
+    #[must_use]
+    pub fn find(&self, ipa: u64) -> Option<RegionMatch> {
+        let mut result = [0; ffi::FIND_RESULT_SIZE];
+        never_refused(ffi::ritm_find(&self.0, ipa, &mut result));
+        let [found, index, offset] = words::get_all(&result, 0);
+        (found == 1).then_some(RegionMatch { index: index as usize, offset })
+    }
+
+    /// The allowed ranges, in order of arrival: what the host writes into its page tables.
+    pub fn allowed_ranges(&self) -> impl Iterator<Item = Stage2Range> + '_ {
+        (0..self.count(ALLOWED_COUNT, MAX_ALLOWED_RANGES)).map(|k| {
+            let [base_ipa, size, end_ipa, attributes] = words::get_all(&self.0, k * ALLOWED_WORDS);
+            Stage2Range { base_ipa, size, end_ipa, attributes }
+        })
+    }
+
+    /// The handled regions, ascending by base.
+    pub fn regions(&self) -> impl Iterator<Item = MemoryAccessRegion> + '_ {
+        (0..self.count(REGION_COUNT, MAX_MEMORY_ACCESS_HANDLERS)).map(|k| {
+            let [base_ipa, size, end_ipa, read, write] = words::get_all(&self.0, REGIONS + k * REGION_WORDS);
+            MemoryAccessRegion {
+                base_ipa,
+                size,
+                end_ipa,
+                handler: MemoryAccessHandler {
+                    read: MemoryHandler::from_code(read),
+                    write: MemoryHandler::from_code(write),
+                },
+            }
+        })
+    }
+
+    /// A stored count; one above its limit reads as the limit.
+    fn count(&self, place: usize, limit: usize) -> usize {
+        words::get(&self.0, place).min(limit as u64) as usize
+    }
+}
+
+impl Default for Policy {
+    fn default() -> Self {
+        Self::new()
+    }
+}
