@@ -20,9 +20,10 @@ use Rattle.hypervisor.specs.declared.TrapStep.{TrapStep}
 use Rattle.hypervisor.specs.Answers.{coreNumber, trapNumber, trapKind, replyAnswer}
 use Rattle.hypervisor.specs.Trap.{handleSyncLower}
 use Rattle.hypervisor.specs.Cores.{noCore, onCore, replyOn, replyStep, trapOn}
-use Rattle.layout.specs.Words.{bytesOf, wordsAt}
-use Rattle.layout.specs.Layout.{policyAt, coresAt, withCore, counterAt, withCounter}
-use Rattle.layout.proofs.Records.{core-of, length-cores}
+use Rattle.words.specs.Words.{bytesOf, wordsAt}
+use Rattle.policy_layout.specs.Layout.{policyAt}
+use Rattle.cores_layout.specs.Layout.{coresAt, withCore, counterAt, withCounter}
+use Rattle.cores_layout.proofs.Records.{core-of, length-cores}
 use Rattle.ritm.specs.Interface.{Left, unlessRefused, steppedCore, replyCall, trapCall}
 
 -- one of the eight, whatever stands for a core past them

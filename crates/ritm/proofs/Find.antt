@@ -15,10 +15,10 @@ use Rattle.stage2_range.specs.declared.RegionFound.{RegionFound}
 use Rattle.stage2_range.specs.declared.RegionFound.the-variants.{Nothing, Match}
 use Rattle.stage2_range.specs.Registry.{hasAddress, fits, findRegion}
 use Rattle.stage2.specs.Policy.{regionsHeld}
-use Rattle.layout.specs.Words.{wordAt, each}
-use Rattle.layout.specs.Layout.{regionAt, policyAt}
-use Rattle.layout.proofs.Records.{region-of}
-use Rattle.layout.proofs.Words.{length-each}
+use Rattle.words.specs.Words.{wordAt, each}
+use Rattle.policy_layout.specs.Layout.{regionAt, policyAt}
+use Rattle.policy_layout.proofs.Records.{region-of}
+use Rattle.words.proofs.Words.{length-each}
 use Rattle.ritm.specs.Interface.{foundWords}
 
 -- what a search answers of a region

@@ -24,8 +24,10 @@ use Rattle.data_abort.specs.declared.TrapRegisters.{TrapRegisters}
 use Rattle.hypervisor.specs.declared.CoresStep.{CoresStep}
 use Rattle.hypervisor.specs.Answers.{coreNumber, trapNumber, trapKind}
 use Rattle.hypervisor.specs.Cores.{noCore, saveOn, replyOn, trapOn}
-use Rattle.layout.specs.Words.{wordAt, wordsAt, bytesOf}
-use Rattle.layout.specs.Layout.{policyAt, withAllowed, withRegions, coresAt, withCore, counterAt, withCounter, mapAt, withPlaces}
+use Rattle.words.specs.Words.{wordAt, wordsAt, bytesOf}
+use Rattle.policy_layout.specs.Layout.{policyAt, withAllowed, withRegions}
+use Rattle.cores_layout.specs.Layout.{coresAt, withCore, counterAt, withCounter}
+use Rattle.map_layout.specs.Layout.{mapAt, withPlaces}
 
 -- What a call leaves: the number returned, "0 or the refusal's number", the state's bytes, and the result's, written whole.
 pub record Left : Type 0 where

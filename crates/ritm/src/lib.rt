@@ -5,36 +5,37 @@ ghost use lib.ListN.{replicate};
 ghost use Rattle.exceptions.specs.Registers.{readValue};
 ghost use Rattle.hypervisor.specs.Cores.{freshCores};
 ghost use Rattle.hypervisor.specs.Trap.{handleSyncLower};
-ghost use Rattle.layout.specs.Words.{bytesOf};
-ghost use Rattle.layout.specs.Layout.{policyAt, coresAt, counterAt, mapAt};
+ghost use Rattle.words.specs.Words.{bytesOf};
+ghost use Rattle.policy_layout.specs.Layout.{policyAt};
+ghost use Rattle.cores_layout.specs.Layout.{coresAt, counterAt};
+ghost use Rattle.map_layout.specs.Layout.{mapAt};
 ghost use Rattle.memory_access.specs.Syndrome.{kindNumber, flagNumber};
 ghost use Rattle.simple_map.specs.Map.{emptyMap};
 ghost use Rattle.stage2.specs.Policy.{freshPolicy, regionsHeld};
 ghost use Rattle.ritm.specs.Interface.{allowCall, handleCall, findCall, saveCall, replyCall, trapCall, readCall, writeCall, insertCall, getCall, removeCall, entryWords, decodeCall, extendCall, alignDownCall, alignUpCall, bufferSize};
+use cores_layout::CORES_SIZE;
+use cores_layout::REGISTERS_SIZE;
+use cores_layout::TRAP_RESULT_SIZE;
+use cores_layout::VALUES_SIZE;
 use data_abort::TrapRegisters;
 use exceptions::Core;
 use exceptions::GprRead;
 use forwarded_call::HvcReply;
 use hypervisor::CoreError;
 use hypervisor::TrapStep;
-use layout::ACCESS_RESULT_SIZE;
-use layout::CORES_SIZE;
-use layout::ENTRY_RESULT_SIZE;
-use layout::FIND_RESULT_SIZE;
-use layout::MAP_SIZE;
-use layout::POLICY_SIZE;
-use layout::REGISTERS_SIZE;
-use layout::TRAP_RESULT_SIZE;
-use layout::VALUES_SIZE;
-use layout::WORD_RESULT_SIZE;
+use map_layout::MAP_SIZE;
 use memory_access::Decoded;
 use memory_access::Fipa;
 use memory_access::MemoryAccess;
 use memory_access::MemoryAccessKind;
+use policy_layout::POLICY_SIZE;
 use simple_map::Lookup;
 use simple_map::SuspendCoreData;
 use stage2::Policy;
 use stage2_range::AlignedUp;
+use words::ONE_WORD;
+use words::SIX_WORDS;
+use words::THREE_WORDS;
 
 // No range, no region.
 #[no_mangle]
@@ -77,7 +78,7 @@ pub extern "C" fn ritm_allow_range(
     ensures { λ r. ⌜ (r ≡ allowCall (now (policy .entry)) «base_ipa» size attributes .number)
         × (now (policy .exit) ≡ allowCall (now (policy .entry)) «base_ipa» size attributes .state) ⌝ }
 {
-    let built = layout::get_policy(policy).allow_range(base_ipa, size, attributes);
+    let built = policy_layout::get_policy(policy).allow_range(base_ipa, size, attributes);
     let answer = built.answer;
     let number = answer.number();
     if number != 0 {
@@ -85,7 +86,7 @@ pub extern "C" fn ritm_allow_range(
     }
     let next = built.policy;
     let allowed = next.allowed;
-    layout::put_allowed(policy, allowed, next.allowed_count);
+    policy_layout::put_allowed(policy, allowed, next.allowed_count);
     0
 }
 
@@ -101,7 +102,7 @@ pub extern "C" fn ritm_handle_range(
     ensures { λ r. ⌜ (r ≡ handleCall (now (policy .entry)) «base_ipa» size read write .number)
         × (now (policy .exit) ≡ handleCall (now (policy .entry)) «base_ipa» size read write .state) ⌝ }
 {
-    let built = layout::get_policy(policy).handle_range(base_ipa, size, read, write);
+    let built = policy_layout::get_policy(policy).handle_range(base_ipa, size, read, write);
     let answer = built.answer;
     let number = answer.number();
     if number != 0 {
@@ -109,7 +110,7 @@ pub extern "C" fn ritm_handle_range(
     }
     let next = built.policy;
     let regions = next.regions;
-    layout::put_regions(policy, regions, next.region_count);
+    policy_layout::put_regions(policy, regions, next.region_count);
     0
 }
 
@@ -118,19 +119,19 @@ pub extern "C" fn ritm_handle_range(
 pub extern "C" fn ritm_find(
     policy: &[u8; POLICY_SIZE],
     ipa: u64,
-    result: &mut [u8; FIND_RESULT_SIZE],
+    result: &mut [u8; THREE_WORDS],
 ) -> u64
     ensures { λ r. ⌜ (r ≡ findCall (now (policy .entry)) ipa .number)
         × (now (result .exit) ≡ findCall (now (policy .entry)) ipa .result) ⌝ }
 {
-    let place = layout::find_place(policy, ipa);
-    let held = lists::held_count(layout::get_region_count(policy), 16);
+    let place = policy_layout::find_place(policy, ipa);
+    let held = lists::held_count(policy_layout::get_region_count(policy), 16);
     if place < held {
-        let offset = ipa - layout::get_region_base(policy, place);
-        layout::put_three(result, 1, place, offset);
+        let offset = ipa - policy_layout::get_region_base(policy, place);
+        words::put_three(result, 1, place, offset);
         return 0;
     }
-    layout::put_three(result, 0, 0, 0);
+    words::put_three(result, 0, 0, 0);
     0
 }
 
@@ -149,17 +150,17 @@ pub extern "C" fn ritm_save(
     if LAST_CORE < core {
         return CoreError::NoSuchCore.number();
     }
-    let x = layout::get_saved_x(registers);
-    let elr = layout::get_saved_elr(registers);
-    let spsr = layout::get_saved_spsr(registers);
-    let step = hypervisor::save_core(layout::get_core(cores, core), x, elr, spsr);
+    let x = cores_layout::get_saved_x(registers);
+    let elr = cores_layout::get_saved_elr(registers);
+    let spsr = cores_layout::get_saved_spsr(registers);
+    let step = hypervisor::save_core(cores_layout::get_core(cores, core), x, elr, spsr);
     let answer = step.answer;
     let number = answer.number();
     if number != 0 {
         return number;
     }
     let after = step.core;
-    layout::put_core(cores, core, after);
+    cores_layout::put_core(cores, core, after);
     0
 }
 
@@ -168,8 +169,8 @@ fn trap_core(policy: &[u8; POLICY_SIZE], core: Core, counter: u64, trap: TrapReg
     ensures { λ r. ⌜ r ≡ handleSyncLower (regionsHeld (policyAt (now (policy .entry)))) core counter trap ⌝ }
 {
     if hypervisor::is_data_abort(trap.esr) {
-        let regions = layout::get_regions(policy);
-        let count = layout::get_region_count(policy);
+        let regions = policy_layout::get_regions(policy);
+        let count = policy_layout::get_region_count(policy);
         hypervisor::handle_sync_lower(regions, count, core, counter, trap)
     } else {
         let fresh = Policy::new();
@@ -195,7 +196,7 @@ pub extern "C" fn ritm_trap(
         × (now (result .exit) ≡ trapCall (now (policy .entry)) (now (cores .entry)) core (record { esr = esr; fipa = record { 0 = fipa }; far = far; vbar = vbar }) .result) ⌝ }
 {
     if LAST_CORE < core {
-        layout::put_trap_result(result, 0, [0u64; 18]);
+        cores_layout::put_trap_result(result, 0, [0u64; 18]);
         return CoreError::NoSuchCore.number();
     }
     let fipa = Fipa(fipa);
@@ -205,19 +206,19 @@ pub extern "C" fn ritm_trap(
         far,
         vbar,
     };
-    let one = layout::get_core(cores, core);
-    let counter = layout::get_counter(cores);
+    let one = cores_layout::get_core(cores, core);
+    let counter = cores_layout::get_counter(cores);
     let step = trap_core(policy, one, counter, trap);
     let answer = step.answer;
     let values = step.values;
-    layout::put_trap_result(result, answer.kind(), values);
+    cores_layout::put_trap_result(result, answer.kind(), values);
     let number = answer.number();
     if number != 0 {
         return number;
     }
     let after = step.core;
-    layout::put_core(cores, core, after);
-    layout::put_counter(cores, step.counter);
+    cores_layout::put_core(cores, core, after);
+    cores_layout::put_counter(cores, step.counter);
     0
 }
 
@@ -236,20 +237,20 @@ pub extern "C" fn ritm_reply(
     if LAST_CORE < core {
         return CoreError::NoSuchCore.number();
     }
-    let values = layout::get_values(values);
+    let values = cores_layout::get_values(values);
     let reply = HvcReply {
         kind,
         values,
         error,
     };
-    let replied = forwarded_call::reply_core(layout::get_core(cores, core), reply);
+    let replied = forwarded_call::reply_core(cores_layout::get_core(cores, core), reply);
     let answer = replied.answer;
     let number = answer.number();
     if number != 0 {
         return number;
     }
     let after = replied.core;
-    layout::put_core(cores, core, after);
+    cores_layout::put_core(cores, core, after);
     0
 }
 
@@ -269,17 +270,17 @@ pub extern "C" fn ritm_read_gpr(
     cores: &[u8; CORES_SIZE],
     core: u64,
     index: u64,
-    result: &mut [u8; WORD_RESULT_SIZE],
+    result: &mut [u8; ONE_WORD],
 ) -> u64
     ensures { λ r. ⌜ (r ≡ readCall (now (cores .entry)) core index .number)
         × (now (result .exit) ≡ readCall (now (cores .entry)) core index .result) ⌝ }
 {
     if LAST_CORE < core {
-        layout::put_one_word(result, 0);
+        words::put_one_word(result, 0);
         return CoreError::NoSuchCore.number();
     }
-    let read = layout::get_core(cores, core).read_gpr(index as usize);
-    layout::put_one_word(result, read_value(read));
+    let read = cores_layout::get_core(cores, core).read_gpr(index as usize);
+    words::put_one_word(result, read_value(read));
     read.number()
 }
 
@@ -297,14 +298,14 @@ pub extern "C" fn ritm_write_gpr(
     if LAST_CORE < core {
         return CoreError::NoSuchCore.number();
     }
-    let written = layout::get_core(cores, core).write_gpr(index as usize, value);
+    let written = cores_layout::get_core(cores, core).write_gpr(index as usize, value);
     let answer = written.answer;
     let number = answer.number();
     if number != 0 {
         return number;
     }
     let after = written.core;
-    layout::put_core(cores, core, after);
+    cores_layout::put_core(cores, core, after);
     0
 }
 
@@ -323,7 +324,7 @@ pub extern "C" fn ritm_insert(
         entry_point,
         context_id,
     };
-    let inserted = layout::get_map(map).insert(key, value);
+    let inserted = map_layout::get_map(map).insert(key, value);
     let answer = inserted.answer;
     let number = answer.number();
     if number != 0 {
@@ -331,31 +332,27 @@ pub extern "C" fn ritm_insert(
     }
     let next = inserted.map;
     let items = next.items;
-    layout::put_places(map, items);
+    map_layout::put_places(map, items);
     0
 }
 
 // A look-up's answer: whether there is an entry, its entry point and its context id.
-fn put_lookup(result: &mut [u8; ENTRY_RESULT_SIZE], lookup: Lookup)
+fn put_lookup(result: &mut [u8; THREE_WORDS], lookup: Lookup)
     ensures { λ _. ⌜ now (result .exit) ≡ bytesOf (entryWords lookup) ⌝ }
 {
     match lookup {
-        Lookup::Nothing => layout::put_three(result, 0, 0, 0),
-        Lookup::Value(value) => layout::put_three(result, 1, value.entry_point, value.context_id),
+        Lookup::Nothing => words::put_three(result, 0, 0, 0),
+        Lookup::Value(value) => words::put_three(result, 1, value.entry_point, value.context_id),
     }
 }
 
 // The entry of a key: whether there is one, its entry point and its context id.
 #[no_mangle]
-pub extern "C" fn ritm_get(
-    map: &[u8; MAP_SIZE],
-    key: u64,
-    result: &mut [u8; ENTRY_RESULT_SIZE],
-) -> u64
+pub extern "C" fn ritm_get(map: &[u8; MAP_SIZE], key: u64, result: &mut [u8; THREE_WORDS]) -> u64
     ensures { λ r. ⌜ (r ≡ getCall (now (map .entry)) key .number)
         × (now (result .exit) ≡ getCall (now (map .entry)) key .result) ⌝ }
 {
-    put_lookup(result, layout::get_map(map).get(key));
+    put_lookup(result, map_layout::get_map(map).get(key));
     0
 }
 
@@ -364,18 +361,18 @@ pub extern "C" fn ritm_get(
 pub extern "C" fn ritm_remove(
     map: &mut [u8; MAP_SIZE],
     key: u64,
-    result: &mut [u8; ENTRY_RESULT_SIZE],
+    result: &mut [u8; THREE_WORDS],
 ) -> u64
     ensures { λ r. ⌜ (r ≡ removeCall (now (map .entry)) key .number)
         × (now (map .exit) ≡ removeCall (now (map .entry)) key .state)
         × (now (result .exit) ≡ removeCall (now (map .entry)) key .result) ⌝ }
 {
-    let removed = layout::get_map(map).remove(key);
+    let removed = map_layout::get_map(map).remove(key);
     let lookup = removed.removed;
     put_lookup(result, lookup);
     let next = removed.map;
     let items = next.items;
-    layout::put_places(map, items);
+    map_layout::put_places(map, items);
     0
 }
 
@@ -388,12 +385,7 @@ fn flag(test: bool) -> u64
 
 // The access that a syndrome describes: IPA, bits, WnR, Rt, SSE, SF; refusal 19.
 #[no_mangle]
-pub extern "C" fn ritm_decode(
-    iss: u32,
-    fipa: u64,
-    far: u64,
-    result: &mut [u8; ACCESS_RESULT_SIZE],
-) -> u64
+pub extern "C" fn ritm_decode(iss: u32, fipa: u64, far: u64, result: &mut [u8; SIX_WORDS]) -> u64
     ensures { λ r. ⌜ (r ≡ decodeCall iss fipa far .number)
         × (now (result .exit) ≡ decodeCall iss fipa far .result) ⌝ }
 {
@@ -402,7 +394,7 @@ pub extern "C" fn ritm_decode(
             let ipa = access.ipa;
             let width = access.width;
             let kind = access.kind;
-            layout::put_six(
+            words::put_six(
                 result,
                 ipa.0,
                 width.bits() as u64,
@@ -414,7 +406,7 @@ pub extern "C" fn ritm_decode(
             0
         }
         Decoded::NoSyndrome => {
-            layout::put_six(result, 0, 0, 0, 0, 0, 0);
+            words::put_six(result, 0, 0, 0, 0, 0, 0);
             Decoded::NoSyndrome.number()
         }
     }
@@ -432,21 +424,17 @@ fn kind_number(kind: MemoryAccessKind) -> u64
 
 // What a load with this syndrome puts into its register, of the value that was read: refusal 19.
 #[no_mangle]
-pub extern "C" fn ritm_extend_read_result(
-    iss: u32,
-    value: u64,
-    result: &mut [u8; WORD_RESULT_SIZE],
-) -> u64
+pub extern "C" fn ritm_extend_read_result(iss: u32, value: u64, result: &mut [u8; ONE_WORD]) -> u64
     ensures { λ r. ⌜ (r ≡ extendCall iss value .number)
         × (now (result .exit) ≡ extendCall iss value .result) ⌝ }
 {
     match MemoryAccess::decode(iss, Fipa(0), 0) {
         Decoded::Access(access) => {
-            layout::put_one_word(result, access.extend_read_result(value));
+            words::put_one_word(result, access.extend_read_result(value));
             0
         }
         Decoded::NoSyndrome => {
-            layout::put_one_word(result, 0);
+            words::put_one_word(result, 0);
             Decoded::NoSyndrome.number()
         }
     }
@@ -454,27 +442,27 @@ pub extern "C" fn ritm_extend_read_result(
 
 // The page boundary at or below an address.
 #[no_mangle]
-pub extern "C" fn ritm_align_down_to_page(address: u64, result: &mut [u8; WORD_RESULT_SIZE]) -> u64
+pub extern "C" fn ritm_align_down_to_page(address: u64, result: &mut [u8; ONE_WORD]) -> u64
     ensures { λ r. ⌜ (r ≡ alignDownCall address .number)
         × (now (result .exit) ≡ alignDownCall address .result) ⌝ }
 {
-    layout::put_one_word(result, stage2_range::align_down_to_page(address));
+    words::put_one_word(result, stage2_range::align_down_to_page(address));
     0
 }
 
 // The page boundary at or above an address: refusal 18.
 #[no_mangle]
-pub extern "C" fn ritm_align_up_to_page(address: u64, result: &mut [u8; WORD_RESULT_SIZE]) -> u64
+pub extern "C" fn ritm_align_up_to_page(address: u64, result: &mut [u8; ONE_WORD]) -> u64
     ensures { λ r. ⌜ (r ≡ alignUpCall address .number)
         × (now (result .exit) ≡ alignUpCall address .result) ⌝ }
 {
     match stage2_range::align_up_to_page(address) {
         AlignedUp::Address(aligned) => {
-            layout::put_one_word(result, aligned);
+            words::put_one_word(result, aligned);
             0
         }
         AlignedUp::NoPageAbove => {
-            layout::put_one_word(result, 0);
+            words::put_one_word(result, 0);
             AlignedUp::NoPageAbove.number()
         }
     }
@@ -492,10 +480,10 @@ pub extern "C" fn ritm_buffer_size(buffer: u64) -> u64
         REGISTERS_SIZE as u64,
         VALUES_SIZE as u64,
         TRAP_RESULT_SIZE as u64,
-        FIND_RESULT_SIZE as u64,
-        ENTRY_RESULT_SIZE as u64,
-        ACCESS_RESULT_SIZE as u64,
-        WORD_RESULT_SIZE as u64,
+        THREE_WORDS as u64,
+        THREE_WORDS as u64,
+        SIX_WORDS as u64,
+        ONE_WORD as u64,
     ];
     if buffer < 10 {
         sizes[buffer as usize]

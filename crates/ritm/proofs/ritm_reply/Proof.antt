@@ -3,7 +3,7 @@ use borrow.Author.Tests.{ne-eqb, le-ltb}
 use Rattle.ritm.specs.Interface.{replyCall}
 use Rattle.forwarded_call.specs.ForwardedCall.{replyCore}
 use Rattle.hypervisor.specs.Cores.{replyOn, replyStep}
-use Rattle.layout.specs.Words.{wordsAt}
+use Rattle.words.specs.Words.{wordsAt}
 use native.Mathlib.Omega.{arith}
 use mir.Syntax.{w32}
 use mir.ValLaws.{toZ-ofZ}

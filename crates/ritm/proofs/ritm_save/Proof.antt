@@ -5,7 +5,7 @@ use Rattle.hypervisor.specs.Cores.{saveOn, saveCore}
 use native.Mathlib.Omega.{arith}
 use Rattle.ritm.proofs.Cores.{step-none, step-one}
 use borrow.Author.Tests.{ne-eqb, le-ltb}
-use Rattle.layout.specs.Words.{wordAt, wordsAt}
+use Rattle.words.specs.Words.{wordAt, wordsAt}
 use Rattle.ritm.proofs.ritm_save.Statement.{statement}
 use Rattle.ritm.proofs.ritm_save.Tie as tie
 

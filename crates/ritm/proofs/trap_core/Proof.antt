@@ -1,6 +1,6 @@
 use borrow.Author.Needs.{needs}
 use mathlib.Core.Path.{_∙_, sym}
-use Rattle.layout.specs.Layout.{policyAt}
+use Rattle.policy_layout.specs.Layout.{policyAt}
 use Rattle.hypervisor.proofs.Laws.{other-regions}
 use Rattle.ritm.proofs.trap_core.Statement.{statement}
 use Rattle.ritm.proofs.trap_core.Tie as tie

@@ -1,0 +1,3 @@
+-- Laws of the cores in lent bytes.
+pub mod Records
+pub mod States

@@ -1,0 +1,3 @@
+-- Laws of the suspend map in lent bytes.
+pub mod Records
+pub mod States

@@ -1,0 +1,29 @@
+-- Laws of the whole suspend map in lent bytes: zero bytes are the empty one, and what was stored is read back. Assumes nothing.
+use Prim.Native.Nat.{_*_}
+use mathlib.Core.Path.{_≡_}
+use mathlib.Core.List.{List}
+use Prim.Native.Nat.{ℕ}
+use lib.ListN.{length, replicate}
+use Rattle.words.specs.Words.{wordAt, each}
+use Rattle.words.proofs.RoundTrip.{Every, Lent, array-back, lent-words}
+use Rattle.words.proofs.Records.{each-constant, zero-record}
+use Rattle.simple_map.specs.declared.Place.{Place}
+use Rattle.simple_map.specs.Map.{emptyMap}
+use Rattle.map_layout.specs.Layout.{placeAt, placeWords, withPlace, mapAt, withPlaces}
+use Rattle.map_layout.proofs.Records.{ItemFits, placeFrom, place-in, place-back, place-beside}
+
+-- zero bytes are the empty map
+pub fresh-map : mapAt (replicate 256 0) ≡ emptyMap
+unfolding mapAt emptyMap
+fresh-map = rw (each-constant (placeAt (replicate 256 0)) (placeFrom (replicate 4 0)) (λ k. zero-record (place-in k) 256) 0 8)
+
+-- the places of the map that were stored are read back
+pub places-back : (b : List ℕ) (items : List Place) → Lent 256 b → length items ≡ 8 → Every (λ p. ItemFits (p .item)) items
+    → mapAt (withPlaces b items) ≡ record { items = items }
+unfolding mapAt withPlaces withPlace
+places-back b items lent all fits = λ i. record { items = places i }
+  where
+    places : each (placeAt (withPlaces b items)) 0 8 ≡ items
+    places =
+        array-back placeAt withPlace (Lent 256) (λ p. ItemFits (p .item)) 8
+        (λ c k p h. lent-words c (4 * k) (placeWords (wordAt c (4 * k)) (p .item)) h) place-back place-beside items b lent all fits

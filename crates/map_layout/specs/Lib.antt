@@ -1,0 +1,2 @@
+-- What the contracts say of the suspend map in lent bytes.
+pub mod Layout

@@ -1,0 +1,3 @@
+-- Laws of the policy in lent bytes.
+pub mod Records
+pub mod States

@@ -1,0 +1,204 @@
+// Where the bytes that a host lends hold the policy: little-endian 64-bit words at fixed places. Any bytes are a policy.
+ghost use mathlib.Core.Path.{_≡_};
+ghost use Prim.Native.Nat.{_<_};
+ghost use mathlib.Core.Bool.{cond};
+ghost use lib.Dec.{ltb};
+ghost use Rattle.lists.specs.Lists.{firstIndex};
+ghost use Rattle.words.specs.Words.{wordAt, each};
+ghost use Rattle.stage2_range.specs.Registry.{handlerNumber, hasAddress};
+ghost use Rattle.stage2.specs.Policy.{regionsHeld};
+ghost use Rattle.policy_layout.specs.Layout.{rangeAt, regionAt, policyAt, withRange, withRegion, withAllowed, withRegions};
+use stage2::Policy;
+use stage2_range::MemoryAccessHandler;
+use stage2_range::MemoryAccessRegion;
+use stage2_range::MemoryHandler;
+use stage2_range::Stage2Range;
+
+// The length of the policy's buffer, in bytes.
+pub const POLICY_SIZE: usize = 1680;
+
+// The code of a handler.
+fn handler_number(handler: MemoryHandler) -> u64
+    ensures { λ r. ⌜ r ≡ handlerNumber handler ⌝ }
+{
+    match handler {
+        MemoryHandler::Absent => 0,
+        MemoryHandler::FilteredMmio => 1,
+    }
+}
+
+// An allowed range.
+fn get_range(policy: &[u8; POLICY_SIZE], place: usize) -> Stage2Range
+    requires { ⌜ place < 32 ⌝ }
+    ensures { λ r. ⌜ r ≡ rangeAt (now (policy .entry)) place ⌝ }
+{
+    let at = 4 * place;
+    Stage2Range {
+        base_ipa: words::get_word(policy, at),
+        size: words::get_word(policy, at + 1),
+        end_ipa: words::get_word(policy, at + 2),
+        attributes: words::get_word(policy, at + 3),
+    }
+}
+
+// Stores an allowed range.
+fn put_range(policy: &mut [u8; POLICY_SIZE], place: usize, range: Stage2Range)
+    requires { ⌜ place < 32 ⌝ }
+    ensures { λ _. ⌜ now (policy .exit) ≡ withRange (now (policy .entry)) place range ⌝ }
+{
+    let at = 4 * place;
+    words::put_word(policy, at, range.base_ipa);
+    words::put_word(policy, at + 1, range.size);
+    words::put_word(policy, at + 2, range.end_ipa);
+    words::put_word(policy, at + 3, range.attributes);
+}
+
+// A region.
+fn get_region(policy: &[u8; POLICY_SIZE], place: usize) -> MemoryAccessRegion
+    requires { ⌜ place < 16 ⌝ }
+    ensures { λ r. ⌜ r ≡ regionAt (now (policy .entry)) place ⌝ }
+{
+    let at = 129 + 5 * place;
+    let handler = MemoryAccessHandler {
+        read: stage2::memory_handler(words::get_word(policy, at + 3)),
+        write: stage2::memory_handler(words::get_word(policy, at + 4)),
+    };
+    MemoryAccessRegion {
+        base_ipa: words::get_word(policy, at),
+        size: words::get_word(policy, at + 1),
+        handler,
+        end_ipa: words::get_word(policy, at + 2),
+    }
+}
+
+// Stores a region.
+fn put_region(policy: &mut [u8; POLICY_SIZE], place: usize, region: MemoryAccessRegion)
+    requires { ⌜ place < 16 ⌝ }
+    ensures { λ _. ⌜ now (policy .exit) ≡ withRegion (now (policy .entry)) place region ⌝ }
+{
+    let at = 129 + 5 * place;
+    let handler = region.handler;
+    let read = handler.read;
+    let write = handler.write;
+    let read_code = words::kept_code(words::get_word(policy, at + 3), 2, handler_number(read));
+    let write_code = words::kept_code(words::get_word(policy, at + 4), 2, handler_number(write));
+    words::put_word(policy, at, region.base_ipa);
+    words::put_word(policy, at + 1, region.size);
+    words::put_word(policy, at + 2, region.end_ipa);
+    words::put_word(policy, at + 3, read_code);
+    words::put_word(policy, at + 4, write_code);
+}
+
+// The 32 places for allowed ranges.
+fn get_allowed(policy: &[u8; POLICY_SIZE]) -> [Stage2Range; 32]
+    ensures { λ r. ⌜ r ≡ each (rangeAt (now (policy .entry))) 0 32 ⌝ }
+{
+    let range = get_range(policy, 0);
+    let mut allowed = [range; 32];
+    let mut place: usize = 1;
+    while place < 32 {
+        allowed[place] = get_range(policy, place);
+        place += 1;
+    }
+    allowed
+}
+
+// The 16 places for regions.
+pub fn get_regions(policy: &[u8; POLICY_SIZE]) -> [MemoryAccessRegion; 16]
+    ensures { λ r. ⌜ r ≡ each (regionAt (now (policy .entry))) 0 16 ⌝ }
+{
+    let region = get_region(policy, 0);
+    let mut regions = [region; 16];
+    let mut place: usize = 1;
+    while place < 16 {
+        regions[place] = get_region(policy, place);
+        place += 1;
+    }
+    regions
+}
+
+// How many regions there are, as the bytes say.
+pub fn get_region_count(policy: &[u8; POLICY_SIZE]) -> u64
+    ensures { λ r. ⌜ r ≡ wordAt (now (policy .entry)) 209 ⌝ }
+{
+    words::get_word(policy, 209)
+}
+
+// The policy.
+pub fn get_policy(policy: &[u8; POLICY_SIZE]) -> Policy
+    ensures { λ r. ⌜ r ≡ policyAt (now (policy .entry)) ⌝ }
+{
+    Policy {
+        allowed: get_allowed(policy),
+        allowed_count: words::get_word(policy, 128),
+        regions: get_regions(policy),
+        region_count: get_region_count(policy),
+    }
+}
+
+// Stores the allowed ranges and their count.
+pub fn put_allowed(policy: &mut [u8; POLICY_SIZE], allowed: [Stage2Range; 32], allowed_count: u64)
+    ensures { λ _. ⌜ now (policy .exit) ≡ withAllowed (now (policy .entry)) allowed «allowed_count» ⌝ }
+{
+    let mut place: usize = 0;
+    while place < 32 {
+        let range = allowed[place];
+        put_range(policy, place, range);
+        place += 1;
+    }
+    words::put_word(policy, 128, allowed_count);
+}
+
+// Stores the regions and their count.
+pub fn put_regions(
+    policy: &mut [u8; POLICY_SIZE],
+    regions: [MemoryAccessRegion; 16],
+    region_count: u64,
+)
+    ensures { λ _. ⌜ now (policy .exit) ≡ withRegions (now (policy .entry)) regions «region_count» ⌝ }
+{
+    let mut place: usize = 0;
+    while place < 16 {
+        let region = regions[place];
+        put_region(policy, place, region);
+        place += 1;
+    }
+    words::put_word(policy, 209, region_count);
+}
+
+// Whether a region has the address.
+fn region_has(policy: &[u8; POLICY_SIZE], place: usize, ipa: u64) -> bool
+    requires { ⌜ place < 16 ⌝ }
+    ensures { λ r. ⌜ r ≡ hasAddress ipa (regionAt (now (policy .entry)) place) ⌝ }
+{
+    let at = 129 + 5 * place;
+    if ipa < words::get_word(policy, at) {
+        return false;
+    }
+    ipa < words::get_word(policy, at + 2)
+}
+
+// The place of the first region held that has the address, and how many are held where none does.
+pub fn find_place(policy: &[u8; POLICY_SIZE], ipa: u64) -> u64
+    ensures { λ r. ⌜ r ≡ firstIndex (hasAddress ipa) (regionsHeld (policyAt (now (policy .entry)))) ⌝ }
+{
+    let held = lists::held_count(get_region_count(policy), 16);
+    let mut place: u64 = 0;
+    while place < held {
+        if region_has(policy, place as usize, ipa) {
+            return place;
+        }
+        place += 1;
+    }
+    place
+}
+
+// The base of a region.
+pub fn get_region_base(policy: &[u8; POLICY_SIZE], place: u64) -> u64
+    ensures { λ r. ⌜ r ≡ cond (ltb place 16) (regionAt (now (policy .entry)) place .«base_ipa») 0 ⌝ }
+{
+    if 16 <= place {
+        return 0;
+    }
+    words::get_word(policy, 129 + 5 * (place as usize))
+}

@@ -1,0 +1,4 @@
+-- Laws of words in lent bytes.
+pub mod Words
+pub mod RoundTrip
+pub mod Records

@@ -1,0 +1,2 @@
+-- What the contracts say of words in lent bytes.
+pub mod Words
