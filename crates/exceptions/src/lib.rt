@@ -1,6 +1,6 @@
 // RITM's src/exceptions.rs: the guest registers that a trap saved, as one record by value.
 ghost use mathlib.Core.Path.{_≡_};
-ghost use Rattle.exceptions.specs.Registers.{freshCore, advancePc, readGpr, readNumber, writeGpr, writeNumber};
+ghost use Rattle.exceptions.specs.Registers.{freshCore, advancePc, readGpr, readNumber, readValue, writeGpr, writeNumber};
 
 // How a call left the guest: the SMCCC's conduit.
 pub enum Conduit {
@@ -63,6 +63,16 @@ impl GprRead {
         match self {
             GprRead::Value(_) => 0,
             GprRead::NoSuchRegister => 17,
+        }
+    }
+
+    // The value that was read, 0 where there is none.
+    pub fn value(self) -> u64
+        ensures { λ r. ⌜ r ≡ readValue self ⌝ }
+    {
+        match self {
+            GprRead::Value(value) => value,
+            GprRead::NoSuchRegister => 0,
         }
     }
 }

@@ -1,12 +1,15 @@
 // Where the bytes that a host lends hold the suspend map: little-endian 64-bit words at fixed places. Any bytes are a map.
 ghost use mathlib.Core.Path.{_≡_};
 ghost use Prim.Native.Nat.{_<_};
-ghost use Rattle.map_layout.specs.Layout.{placeAt, mapAt, withPlace, withPlaces};
+ghost use Rattle.words.specs.Words.{bytesOf};
+ghost use Rattle.map_layout.specs.Layout.{placeAt, mapAt, withPlace, withPlaces, entryWords};
 use simple_map::Item;
+use simple_map::Lookup;
 use simple_map::OptionItem;
 use simple_map::Place;
 use simple_map::SimpleMap;
 use simple_map::SuspendCoreData;
+use words::THREE_WORDS;
 
 // The length of the map's buffer, in bytes.
 pub const MAP_SIZE: usize = 256;
@@ -80,5 +83,15 @@ pub fn put_places(map: &mut [u8; MAP_SIZE], items: [Place; 8])
         let one = items[place];
         put_place(map, place, one);
         place += 1;
+    }
+}
+
+// A look-up's answer: whether there is an entry, its entry point and its context id.
+pub fn put_lookup(result: &mut [u8; THREE_WORDS], lookup: Lookup)
+    ensures { λ _. ⌜ now (result .exit) ≡ bytesOf (entryWords lookup) ⌝ }
+{
+    match lookup {
+        Lookup::Nothing => words::put_three(result, 0, 0, 0),
+        Lookup::Value(value) => words::put_three(result, 1, value.entry_point, value.context_id),
     }
 }

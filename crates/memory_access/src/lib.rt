@@ -1,7 +1,8 @@
 // RITM's memory_access/src/lib.rs: the guest memory access that a data abort's syndrome describes.
 ghost use mathlib.Core.Path.{_≡_};
 ghost use Prim.Native.Nat.{_-_, _^_};
-ghost use Rattle.memory_access.specs.Syndrome.{isv, sas, sse, srt, sf, wnr, kindOf, widthOf, bitsOf, faultIpa, decodeAccess, numberOf};
+ghost use Rattle.memory_access.specs.Syndrome.{isv, sas, sse, srt, sf, wnr, kindOf, widthOf, bitsOf, faultIpa, decodeAccess, kindNumber, flagNumber, numberOf, valuesOf};
+ghost use Rattle.memory_access.specs.declared.Decoded.the-variants.{Access};
 ghost use Rattle.memory_access.specs.Transfer.{lowBits, signExtend, loaded, atRegisterWidth, extendReadResult, storeValue};
 
 // The faulting page number, as HPFAR_EL2 reports it: it counts pages.
@@ -76,9 +77,55 @@ impl Decoded {
             Decoded::NoSyndrome => 19,
         }
     }
+
+    // The answer's result fields, zeros where there are none: IPA, bits, WnR, Rt, SSE, SF.
+    pub fn values(self) -> [u64; 6]
+        ensures { λ r. ⌜ r ≡ valuesOf self ⌝ }
+    {
+        match self {
+            Decoded::Access(access) => access.values(),
+            Decoded::NoSyndrome => [0u64; 6],
+        }
+    }
+}
+
+// A test as a number.
+fn flag(test: bool) -> u64
+    ensures { λ r. ⌜ r ≡ flagNumber test ⌝ }
+{
+    if test { 1 } else { 0 }
+}
+
+impl MemoryAccessKind {
+    // The direction as a number: WnR.
+    fn number(self) -> u64
+        ensures { λ r. ⌜ r ≡ kindNumber self ⌝ }
+    {
+        match self {
+            MemoryAccessKind::Read => 0,
+            MemoryAccessKind::Write => 1,
+        }
+    }
 }
 
 impl MemoryAccess {
+    // Its fields as numbers.
+    fn values(self) -> [u64; 6]
+        ensures { λ r. ⌜ r ≡ valuesOf (Access self) ⌝ }
+    {
+        let ipa = self.ipa;
+        let width = self.width;
+        let kind = self.kind;
+        [
+            ipa.0,
+            width.bits() as u64,
+            kind.number(),
+            self.register_index as u64,
+            flag(self.sign_extend),
+            flag(self.register_width_64),
+        ]
+    }
+
     // Decodes the syndrome of a data abort. Without ISV the syndrome does not describe a register transfer.
     pub fn decode(iss: u32, fipa: Fipa, far: u64) -> Decoded
         ensures { λ r. ⌜ r ≡ decodeAccess iss fipa far ⌝ }

@@ -16,9 +16,7 @@ use Rattle.stage2_range.specs.declared.RegionFound.the-variants as region
 use Rattle.stage2_range.specs.Ranges.{resultNumber, alignDown, alignUp, alignedNumber, alignedValue}
 use Rattle.stage2_range.specs.Registry.{hasAddress, findRegion}
 use Rattle.stage2.specs.Policy.{regionsHeld, allowRange, handleRange}
-use Rattle.simple_map.specs.declared.Lookup.{Lookup}
-use Rattle.simple_map.specs.declared.Lookup.the-variants as lookup
-use Rattle.simple_map.specs.Map.{getItem, insertItem, insertNumber, removeItem, lookupValues}
+use Rattle.simple_map.specs.Map.{getItem, insertItem, insertNumber, removeItem}
 use Rattle.exceptions.specs.Registers.{readGpr, readNumber, readValue, writeGpr, writeNumber}
 use Rattle.data_abort.specs.declared.TrapRegisters.{TrapRegisters}
 use Rattle.hypervisor.specs.declared.CoresStep.{CoresStep}
@@ -27,7 +25,7 @@ use Rattle.hypervisor.specs.Cores.{noCore, saveOn, replyOn, trapOn}
 use Rattle.words.specs.Words.{wordAt, wordsAt, bytesOf}
 use Rattle.policy_layout.specs.Layout.{policyAt, withAllowed, withRegions}
 use Rattle.cores_layout.specs.Layout.{coresAt, withCore, counterAt, withCounter}
-use Rattle.map_layout.specs.Layout.{mapAt, withPlaces}
+use Rattle.map_layout.specs.Layout.{mapAt, withPlaces, entryWords}
 
 -- What a call leaves: the number returned, "0 or the refusal's number", the state's bytes, and the result's, written whole.
 pub record Left : Type 0 where
@@ -130,11 +128,6 @@ insertCall map key entry context =
     let inserted = insertItem (mapAt map) key (record { «entry_point» = entry; «context_id» = context }) in
     let number = insertNumber (inserted .answer) in
     record { number = number; state = unlessRefused number map (withPlaces map (inserted .map .items)); result = [] }
-
--- whether there is an entry, its entry point and its context id
-abbrev pub entryWords : Lookup → List ℕ
-entryWords lookup.Nothing = 0 ∷ lookupValues lookup.Nothing
-entryWords (lookup.Value v) = 1 ∷ lookupValues (lookup.Value v)
 
 -- `ritm_get`
 unfoldable pub getCall : List ℕ → ℕ → Left

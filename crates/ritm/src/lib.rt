@@ -2,24 +2,20 @@
 // the state's bytes as they were, and a result is written whole on every call, zeros where there is nothing.
 ghost use mathlib.Core.Path.{_≡_};
 ghost use lib.ListN.{replicate};
-ghost use Rattle.exceptions.specs.Registers.{readValue};
 ghost use Rattle.hypervisor.specs.Cores.{freshCores};
 ghost use Rattle.hypervisor.specs.Trap.{handleSyncLower};
-ghost use Rattle.words.specs.Words.{bytesOf};
 ghost use Rattle.policy_layout.specs.Layout.{policyAt};
 ghost use Rattle.cores_layout.specs.Layout.{coresAt, counterAt};
 ghost use Rattle.map_layout.specs.Layout.{mapAt};
-ghost use Rattle.memory_access.specs.Syndrome.{kindNumber, flagNumber};
 ghost use Rattle.simple_map.specs.Map.{emptyMap};
 ghost use Rattle.stage2.specs.Policy.{freshPolicy, regionsHeld};
-ghost use Rattle.ritm.specs.Interface.{allowCall, handleCall, findCall, saveCall, replyCall, trapCall, readCall, writeCall, insertCall, getCall, removeCall, entryWords, decodeCall, extendCall, alignDownCall, alignUpCall, bufferSize};
+ghost use Rattle.ritm.specs.Interface.{allowCall, handleCall, findCall, saveCall, replyCall, trapCall, readCall, writeCall, insertCall, getCall, removeCall, decodeCall, extendCall, alignDownCall, alignUpCall, bufferSize};
 use cores_layout::CORES_SIZE;
 use cores_layout::REGISTERS_SIZE;
 use cores_layout::TRAP_RESULT_SIZE;
 use cores_layout::VALUES_SIZE;
 use data_abort::TrapRegisters;
 use exceptions::Core;
-use exceptions::GprRead;
 use forwarded_call::HvcReply;
 use hypervisor::CoreError;
 use hypervisor::TrapStep;
@@ -27,12 +23,9 @@ use map_layout::MAP_SIZE;
 use memory_access::Decoded;
 use memory_access::Fipa;
 use memory_access::MemoryAccess;
-use memory_access::MemoryAccessKind;
 use policy_layout::POLICY_SIZE;
-use simple_map::Lookup;
 use simple_map::SuspendCoreData;
 use stage2::Policy;
-use stage2_range::AlignedUp;
 use words::ONE_WORD;
 use words::SIX_WORDS;
 use words::THREE_WORDS;
@@ -254,16 +247,6 @@ pub extern "C" fn ritm_reply(
     0
 }
 
-// The value that was read, and 0 in a refusal.
-fn read_value(read: GprRead) -> u64
-    ensures { λ r. ⌜ r ≡ readValue read ⌝ }
-{
-    match read {
-        GprRead::Value(value) => value,
-        GprRead::NoSuchRegister => 0,
-    }
-}
-
 // The value of a guest register: refusals 10, 17.
 #[no_mangle]
 pub extern "C" fn ritm_read_gpr(
@@ -280,7 +263,7 @@ pub extern "C" fn ritm_read_gpr(
         return CoreError::NoSuchCore.number();
     }
     let read = cores_layout::get_core(cores, core).read_gpr(index as usize);
-    words::put_one_word(result, read_value(read));
+    words::put_one_word(result, read.value());
     read.number()
 }
 
@@ -336,23 +319,13 @@ pub extern "C" fn ritm_insert(
     0
 }
 
-// A look-up's answer: whether there is an entry, its entry point and its context id.
-fn put_lookup(result: &mut [u8; THREE_WORDS], lookup: Lookup)
-    ensures { λ _. ⌜ now (result .exit) ≡ bytesOf (entryWords lookup) ⌝ }
-{
-    match lookup {
-        Lookup::Nothing => words::put_three(result, 0, 0, 0),
-        Lookup::Value(value) => words::put_three(result, 1, value.entry_point, value.context_id),
-    }
-}
-
 // The entry of a key: whether there is one, its entry point and its context id.
 #[no_mangle]
 pub extern "C" fn ritm_get(map: &[u8; MAP_SIZE], key: u64, result: &mut [u8; THREE_WORDS]) -> u64
     ensures { λ r. ⌜ (r ≡ getCall (now (map .entry)) key .number)
         × (now (result .exit) ≡ getCall (now (map .entry)) key .result) ⌝ }
 {
-    put_lookup(result, map_layout::get_map(map).get(key));
+    map_layout::put_lookup(result, map_layout::get_map(map).get(key));
     0
 }
 
@@ -369,18 +342,11 @@ pub extern "C" fn ritm_remove(
 {
     let removed = map_layout::get_map(map).remove(key);
     let lookup = removed.removed;
-    put_lookup(result, lookup);
+    map_layout::put_lookup(result, lookup);
     let next = removed.map;
     let items = next.items;
     map_layout::put_places(map, items);
     0
-}
-
-// A test as a number.
-fn flag(test: bool) -> u64
-    ensures { λ r. ⌜ r ≡ flagNumber test ⌝ }
-{
-    if test { 1 } else { 0 }
 }
 
 // The access that a syndrome describes: IPA, bits, WnR, Rt, SSE, SF; refusal 19.
@@ -389,37 +355,9 @@ pub extern "C" fn ritm_decode(iss: u32, fipa: u64, far: u64, result: &mut [u8; S
     ensures { λ r. ⌜ (r ≡ decodeCall iss fipa far .number)
         × (now (result .exit) ≡ decodeCall iss fipa far .result) ⌝ }
 {
-    match MemoryAccess::decode(iss, Fipa(fipa), far) {
-        Decoded::Access(access) => {
-            let ipa = access.ipa;
-            let width = access.width;
-            let kind = access.kind;
-            words::put_six(
-                result,
-                ipa.0,
-                width.bits() as u64,
-                kind_number(kind),
-                access.register_index as u64,
-                flag(access.sign_extend),
-                flag(access.register_width_64),
-            );
-            0
-        }
-        Decoded::NoSyndrome => {
-            words::put_six(result, 0, 0, 0, 0, 0, 0);
-            Decoded::NoSyndrome.number()
-        }
-    }
-}
-
-// A direction as a number: WnR.
-fn kind_number(kind: MemoryAccessKind) -> u64
-    ensures { λ r. ⌜ r ≡ kindNumber kind ⌝ }
-{
-    match kind {
-        MemoryAccessKind::Read => 0,
-        MemoryAccessKind::Write => 1,
-    }
+    let decoded = MemoryAccess::decode(iss, Fipa(fipa), far);
+    words::put_six(result, decoded.values());
+    decoded.number()
 }
 
 // What a load with this syndrome puts into its register, of the value that was read: refusal 19.
@@ -456,16 +394,9 @@ pub extern "C" fn ritm_align_up_to_page(address: u64, result: &mut [u8; ONE_WORD
     ensures { λ r. ⌜ (r ≡ alignUpCall address .number)
         × (now (result .exit) ≡ alignUpCall address .result) ⌝ }
 {
-    match stage2_range::align_up_to_page(address) {
-        AlignedUp::Address(aligned) => {
-            words::put_one_word(result, aligned);
-            0
-        }
-        AlignedUp::NoPageAbove => {
-            words::put_one_word(result, 0);
-            AlignedUp::NoPageAbove.number()
-        }
-    }
+    let aligned = stage2_range::align_up_to_page(address);
+    words::put_one_word(result, aligned.value());
+    aligned.number()
 }
 
 // The length in bytes of a lent buffer by its number, and 0 where there is none.

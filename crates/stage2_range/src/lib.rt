@@ -2,7 +2,7 @@
 ghost use mathlib.Core.Path.{_≡_};
 ghost use Prim.Native.Nat.{_≤_, _<_};
 ghost use Rattle.lists.specs.Lists.{held, firstIndex, insertAt};
-ghost use Rattle.stage2_range.specs.Ranges.{validateRange, errorNumber, resultNumber, sharesByte, overlapsAllowed, alignDown, alignUp, alignedNumber};
+ghost use Rattle.stage2_range.specs.Ranges.{validateRange, errorNumber, resultNumber, sharesByte, overlapsAllowed, alignDown, alignUp, alignedNumber, alignedValue};
 ghost use Rattle.stage2_range.specs.Registry.{fits, overlapsRegions, findRegion, registerRegion};
 use memory_access::Ipa;
 use memory_access::MemoryAccessWidth;
@@ -150,6 +150,16 @@ impl AlignedUp {
         match self {
             AlignedUp::Address(_) => 0,
             AlignedUp::NoPageAbove => 18,
+        }
+    }
+
+    // The page boundary, 0 where there is none.
+    pub fn value(self) -> u64
+        ensures { λ r. ⌜ r ≡ alignedValue self ⌝ }
+    {
+        match self {
+            AlignedUp::Address(address) => address,
+            AlignedUp::NoPageAbove => 0,
         }
     }
 }

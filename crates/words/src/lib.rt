@@ -113,21 +113,13 @@ pub fn put_three(result: &mut [u8; THREE_WORDS], first: u64, second: u64, third:
 }
 
 // A result of six words.
-pub fn put_six(
-    result: &mut [u8; SIX_WORDS],
-    first: u64,
-    second: u64,
-    third: u64,
-    fourth: u64,
-    fifth: u64,
-    sixth: u64,
-)
-    ensures { λ _. ⌜ now (result .exit) ≡ bytesOf (first ∷ second ∷ third ∷ fourth ∷ fifth ∷ sixth ∷ []) ⌝ }
+pub fn put_six(result: &mut [u8; SIX_WORDS], values: [u64; 6])
+    ensures { λ _. ⌜ now (result .exit) ≡ bytesOf values ⌝ }
 {
-    put_word(result, 0, first);
-    put_word(result, 1, second);
-    put_word(result, 2, third);
-    put_word(result, 3, fourth);
-    put_word(result, 4, fifth);
-    put_word(result, 5, sixth);
+    put_word(result, 0, values[0]);
+    let mut i: usize = 0;
+    while i < 5 {
+        put_word(result, i + 1, values[i + 1]);
+        i += 1;
+    }
 }

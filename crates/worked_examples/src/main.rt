@@ -3,15 +3,13 @@ ghost use mathlib.Core.Path.{_≡_};
 ghost use Prim.Native.Nat.{_-_, _^_};
 ghost use lib.ListN.{getD};
 ghost use Rattle.memory_access.specs.Syndrome.{valuesOf};
-ghost use Rattle.stage2_range.specs.Ranges.{alignedValue};
 ghost use Rattle.stage2_range.specs.Registry.{findRegion, foundValues};
 ghost use Rattle.simple_map.specs.Map.{lookupValues};
-ghost use Rattle.exceptions.specs.Registers.{freshCore, readValue, writeGpr};
+ghost use Rattle.exceptions.specs.Registers.{freshCore, writeGpr};
 ghost use Rattle.hypervisor.specs.Cores.{noCore};
 ghost use Rattle.worked_examples.specs.Examples.{signedHalfword, readable, twoPages, intoFullMap, counterLoad, oneRegion, savedCores, trapAt, trapped, replyOf, replied};
 use data_abort::TrapRegisters;
 use exceptions::Core;
-use exceptions::GprRead;
 use exceptions::GprWritten;
 use forwarded_call::HvcReply;
 use hvc_response::HvcResult;
@@ -32,7 +30,6 @@ use simple_map::Place;
 use simple_map::SimpleMap;
 use simple_map::SuspendCoreData;
 use stage2::Policy;
-use stage2_range::AlignedUp;
 use stage2_range::MemoryAccessHandler;
 use stage2_range::MemoryAccessRegion;
 use stage2_range::MemoryHandler;
@@ -59,15 +56,6 @@ fn decoded_register(decoded: Decoded) -> u64
     match decoded {
         Decoded::Access(access) => access.register_index as u64,
         Decoded::NoSyndrome => 0,
-    }
-}
-
-fn aligned_address(aligned: AlignedUp) -> u64
-    ensures { λ r. ⌜ r ≡ alignedValue aligned ⌝ }
-{
-    match aligned {
-        AlignedUp::Address(address) => address,
-        AlignedUp::NoPageAbove => 0,
     }
 }
 
@@ -98,15 +86,6 @@ fn entry_point(lookup: Lookup) -> u64
     match lookup {
         Lookup::Value(value) => value.entry_point,
         Lookup::Nothing => 0,
-    }
-}
-
-fn register_value(read: GprRead) -> u64
-    ensures { λ r. ⌜ r ≡ readValue read ⌝ }
-{
-    match read {
-        GprRead::Value(value) => value,
-        GprRead::NoSuchRegister => 0,
     }
 }
 
@@ -164,7 +143,7 @@ fn range_of_a_page_and_a_half() -> u64
 fn first_page_above() -> u64
     ensures { λ r. ⌜ r ≡ 0x2000 ⌝ }
 {
-    aligned_address(stage2_range::align_up_to_page(0x1001))
+    stage2_range::align_up_to_page(0x1001).value()
 }
 
 fn no_page_above() -> u64
@@ -278,7 +257,7 @@ fn link_register_written() -> u64
 {
     let written = Core::fresh().write_gpr(30, 7);
     let core = written.core;
-    register_value(core.read_gpr(30))
+    core.read_gpr(30).value()
 }
 
 // The bench row "store from Rt 31".
@@ -287,7 +266,7 @@ fn store_from_register_31() -> u64
 {
     let written = Core::fresh().write_gpr(30, 7);
     let core = written.core;
-    register_value(core.read_gpr(31))
+    core.read_gpr(31).value()
 }
 
 fn write_of_register_32() -> u64
@@ -309,7 +288,7 @@ fn lent_register_written() -> u64
     ensures { λ r. ⌜ r ≡ 7 ⌝ }
 {
     let core = lent_write(5).core;
-    register_value(core.read_gpr(5))
+    core.read_gpr(5).value()
 }
 
 fn lent_write_of_register_5() -> u64

@@ -23,8 +23,8 @@ get-core-requires c κs = search needs
 read-gpr-requires : tie.Need-read-gpr-requires
 read-gpr-requires c κs = search needs
 
-read-value-requires : tie.Need-read-value-requires
-read-value-requires c κs = search needs
+value-requires : tie.Need-value-requires
+value-requires c κs = search needs
 
 put-one-word-requires-2 : tie.Need-put-one-word-requires-2
 put-one-word-requires-2 c κs = search needs
@@ -36,7 +36,7 @@ returns-2 : tie.Need-returns-2
 unfolding readCall
 returns-2 c = let a = c .before .before .before .before .before .before .before .args in (
   rw (le-ltb 7 (a .core) (omega arith), same-core (a .cores .now) (a .core) (omega arith), ← c .before .before .before .before .before .get-core .ensures, ← c .before .before .before .before .read-gpr .ensures) (c .number2 .ensures),
-  rw (le-ltb 7 (a .core) (omega arith), same-core (a .cores .now) (a .core) (omega arith), ← c .before .before .before .before .before .get-core .ensures, ← c .before .before .before .before .read-gpr .ensures, ← c .before .before .read-value .ensures) (c .before .put-one-word2 .ensures),
+  rw (le-ltb 7 (a .core) (omega arith), same-core (a .cores .now) (a .core) (omega arith), ← c .before .before .before .before .before .get-core .ensures, ← c .before .before .before .before .read-gpr .ensures, ← c .before .before .value .ensures) (c .before .put-one-word2 .ensures),
 )
 
 pub ritm-read-gpr-spec : {M : Type 1} → statement M
@@ -48,7 +48,7 @@ ritm-read-gpr-spec =
     returns
     get-core-requires
     read-gpr-requires
-    read-value-requires
+    value-requires
     put-one-word-requires-2
     number-requires-2
     returns-2)

@@ -9,13 +9,13 @@ lent-write-requires c κs = search needs
 read-gpr-requires : tie.Need-read-gpr-requires
 read-gpr-requires c κs = search needs
 
-register-value-requires : tie.Need-register-value-requires
-register-value-requires c κs = search needs
+value-requires : tie.Need-value-requires
+value-requires c κs = search needs
 
 returns : tie.Need-returns
 unfolding freshCore writeGpr withRegisters readGpr
-returns c = rw (c .register-value .ensures, c .before .read-gpr .ensures, c .before .before .before .lent-write .ensures)
+returns c = rw (c .value .ensures, c .before .read-gpr .ensures, c .before .before .before .lent-write .ensures)
 
 pub lent-register-written-spec : {M : Type 1} → statement M
 lent-register-written-spec =
-    tie.close (tie.spec lent-write-requires read-gpr-requires register-value-requires returns)
+    tie.close (tie.spec lent-write-requires read-gpr-requires value-requires returns)

@@ -12,14 +12,14 @@ write-gpr-requires c κs = search needs
 read-gpr-requires : tie.Need-read-gpr-requires
 read-gpr-requires c κs = search needs
 
-register-value-requires : tie.Need-register-value-requires
-register-value-requires c κs = search needs
+value-requires : tie.Need-value-requires
+value-requires c κs = search needs
 
 returns : tie.Need-returns
 unfolding readGpr
-returns c = rw (c .register-value .ensures, c .before .read-gpr .ensures)
+returns c = rw (c .value .ensures, c .before .read-gpr .ensures)
 
 pub store-from-register-31-spec : {M : Type 1} → statement M
 store-from-register-31-spec =
     tie.close
-    (tie.spec fresh-requires write-gpr-requires read-gpr-requires register-value-requires returns)
+    (tie.spec fresh-requires write-gpr-requires read-gpr-requires value-requires returns)

@@ -1,6 +1,6 @@
 use borrow.Author.Needs.{needs}
-use Rattle.ritm.proofs.put_lookup.Statement.{statement}
-use Rattle.ritm.proofs.put_lookup.Tie as tie
+use Rattle.map_layout.proofs.put_lookup.Statement.{statement}
+use Rattle.map_layout.proofs.put_lookup.Tie as tie
 
 enum-told : tie.Need-enum-told
 enum-told c = search needs
