@@ -6,9 +6,10 @@ use native.Mathlib.Omega.{arith}
 use native.Mathlib.Nat.{zero-add}
 use lib.ListN.{length, getD, take, drop, length-append, List·getD-eq-default}
 use lib.Seq.{take-at, drop-at}
-use Rattle.words.specs.Words.{wordAt, each, keptCode}
+use Rattle.words.specs.Words.{wordAt, each, keptCode, FitsWord, Lent}
 use Rattle.words.proofs.Words.{getD-each, length-each, word-same}
-use Rattle.words.proofs.RoundTrip.{Every, FitsWord, Lent, words-beside, word-fits, code-fits, meaning-back}
+use Rattle.words.proofs.RoundTrip.{Every, words-beside, lent-words, word-fits, code-fits, meaning-back}
+use Rattle.words.proofs.Every.{every-append}
 use Rattle.words.proofs.Records.{InWords, record-written, record-kept}
 use Rattle.exceptions.specs.declared.Conduit.the-variants.{Hvc, Smc}
 use Rattle.exceptions.specs.declared.Recipient.the-variants.{Firmware, Platform}
@@ -91,7 +92,7 @@ module _ (b : List ℕ) (k : ℕ) where
   unfolding withCore
   core-back c lent h registers fits =
       let rest : List ℕ = restWords b k c in
-      record-written (core-in k) b (c .x ++ rest) (length-core b k c registers) (omega arith) (append (c .x) rest (fits .0) (omega (arith, fits .1, code)))
+      record-written (core-in k) b (c .x ++ rest) (length-core b k c registers) (omega arith) (every-append FitsWord (c .x) rest (fits .0) (omega (arith, fits .1, code)))
       ∙ rw (take-at (c .x) rest 31 registers, drop-at (c .x) rest 31 registers, wait-back old (c .wait))
     where
       old : ℕ
@@ -99,10 +100,6 @@ module _ (b : List ℕ) (k : ℕ) where
 
       code : FitsWord (keptCode 5 old (waitNumber (c .wait)))
       code = code-fits 5 old (waitNumber (c .wait)) (word-fits b (38 * k + 37) (lent .bytes)) (omega (arith, wait-code (c .wait)))
-
-      append : (xs ys : List ℕ) → Every FitsWord xs → Every FitsWord ys → Every FitsWord (xs ++ ys)
-      append [] ys h k = k
-      append (x ∷ xs) ys h k = (h .0, append xs ys (h .1) k)
 
   -- the other cores are as they were
   pub core-beside : (c : Core) (k′ : ℕ) → length (c .x) ≡ 31 → (k ≡ k′ → ⊥) → coreAt (withCore b k c) k′ ≡ coreAt b k′
@@ -113,6 +110,16 @@ module _ (b : List ℕ) (k : ℕ) where
   pub core-counter : (c : Core) → k < 8 → length (c .x) ≡ 31 → counterAt (withCore b k c) ≡ counterAt b
   unfolding withCore counterAt
   core-counter c h registers = words-beside b (38 * k) (c .x ++ restWords b k c) 304 (omega (arith, length-core b k c registers))
+
+  -- the bytes with a core are lent bytes
+  pub core-lent : (c : Core) → Lent 2440 b → Lent 2440 (withCore b k c)
+  unfolding withCore
+  core-lent c lent = lent-words b (38 * k) (c .x ++ restWords b k c) lent
+
+-- so are those with a counter
+pub counter-lent : (b : List ℕ) (n : ℕ) → Lent 2440 b → Lent 2440 (withCounter b n)
+unfolding withCounter
+counter-lent b n lent = lent-words b 304 (n ∷ []) lent
 
 -- the counter that was stored is read back
 pub counter-back : (b : List ℕ) (n : ℕ) → length b ≡ 2440 → FitsWord n → counterAt (withCounter b n) ≡ n

@@ -5,7 +5,7 @@ use mathlib.Core.List.{List, [], _∷_}
 use native.Mathlib.Omega.{arith}
 use native.Mathlib.Nat.{zero-add}
 use lib.ListN.{length, set, replicate}
-use Rattle.words.proofs.RoundTrip.{Lent}
+use Rattle.words.specs.Words.{Lent}
 use Rattle.words.proofs.Records.{each-constant, zero-word, zero-record, array-kept, each-set}
 use Rattle.exceptions.specs.declared.Core.{Core}
 use Rattle.exceptions.specs.Registers.{freshCore}

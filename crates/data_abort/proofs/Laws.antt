@@ -20,6 +20,7 @@ use Rattle.stage2_range.specs.declared.MemoryAccessRegion.{MemoryAccessRegion}
 use Rattle.stage2_range.specs.declared.MemoryAccessHandlerMatch.{MemoryAccessHandlerMatch}
 use Rattle.stage2_range.specs.declared.MemoryHandler.{MemoryHandler}
 use Rattle.stage2_range.specs.declared.MemoryHandler.the-variants.{Absent, FilteredMmio}
+use Rattle.stage2_range.specs.declared.MemoryReadAccess.{MemoryReadAccess}
 use Rattle.stage2_range.specs.declared.MemoryReadResult.{MemoryReadResult}
 use Rattle.stage2_range.specs.declared.MemoryReadResult.the-variants as read
 use Rattle.stage2_range.specs.declared.MemoryWriteResult.{MemoryWriteResult}
@@ -28,10 +29,9 @@ use Rattle.stage2_range.specs.declared.RegionFound.{RegionFound}
 use Rattle.stage2_range.specs.declared.RegionFound.the-variants.{Nothing, Match}
 use Rattle.stage2_range.specs.Registry.{findRegion}
 use Rattle.exceptions.specs.declared.Core.{Core}
-use Rattle.exceptions.specs.declared.Wait.{Wait}
-use Rattle.exceptions.specs.Registers.{advancePc}
+use Rattle.exceptions.specs.Registers.{advancePc, writeGpr}
 use Rattle.exceptions.proofs.Laws.{write-wait}
-use Rattle.qemu.specs.FilteredMmio.{readFilteredMmio, writeFilteredMmio}
+use Rattle.qemu.specs.FilteredMmio.{loadsCounter, counterAfter, readFilteredMmio, writeFilteredMmio}
 use Rattle.data_abort.specs.declared.AbortAnswer.the-variants.{Injected, NoGuestVector}
 use Rattle.data_abort.specs.declared.AbortStep.{AbortStep}
 use Rattle.data_abort.specs.declared.AccessOutcome.{AccessOutcome}
@@ -102,58 +102,67 @@ module _ (regions : List MemoryAccessRegion) (core : Core) (counter : ℕ) (trap
   unfolding handleDataAbort injectDataAbort
   abort-refused h = refused-by (tryMemoryAccess regions core counter trap .outcome) (eqb (trap .vbar) 0) h
 
--- A data abort leaves what the core waits for.
-read-wait : (result : MemoryReadResult) (after : ℕ) (access : MemoryAccess) (core : Core) (counter : ℕ)
-    → readDone result after access core counter .core .wait ≡ core .wait
-unfolding advancePc
-read-wait (read.Value value) after access core counter = write-wait core (access .«register_index») (extendReadResult access value)
-read-wait read.Fault after access core counter = refl
+-- What holds of the core and the counter as they were, after a handled load, after a handled store and after an injection, holds after a
+-- data abort.
+module _ (P : Core → ℕ → Type 0) (core : Core) (counter : ℕ) (same : P core counter)
+    (load : (access : MemoryAccess) (value : ℕ) (loads : Bool)
+    → P (advancePc (writeGpr core (access .«register_index») (extendReadResult access value) .core)) (counterAfter loads counter))
+    (store : P (advancePc core) counter) where
+  abbrev After : Accessed → Type 0
+  After a = P (a .core) (a .counter)
 
-written-wait : (result : MemoryWriteResult) (core : Core) (counter : ℕ) → writeDone result core counter .core .wait ≡ core .wait
-unfolding advancePc
-written-wait write.Handled core counter = refl
-written-wait write.Fault core counter = refl
+  by-read : (result : MemoryReadResult) (loads : Bool) (access : MemoryAccess) → After (readDone result (counterAfter loads counter) access core counter)
+  by-read (read.Value value) loads access = load access value loads
+  by-read read.Fault loads access = same
 
-read-through-wait : (handler : MemoryHandler) (access : MemoryAccess) (offset : ℕ) (core : Core) (counter : ℕ)
-    → readThrough handler access offset core counter .core .wait ≡ core .wait
-unfolding readThrough
-read-through-wait Absent access offset core counter = refl
-read-through-wait FilteredMmio access offset core counter =
-    let got = readFilteredMmio (record { ipa = access .ipa; offset = offset; width = access .width }) counter in
-    read-wait (got .result) (got .counter) access core counter
+  by-write : (result : MemoryWriteResult) → After (writeDone result core counter)
+  by-write write.Handled = store
+  by-write write.Fault = same
 
-write-through-wait : (handler : MemoryHandler) (access : MemoryAccess) (offset : ℕ) (core : Core) (counter : ℕ)
-    → writeThrough handler access offset core counter .core .wait ≡ core .wait
-unfolding writeThrough
-write-through-wait Absent access offset core counter = refl
-write-through-wait FilteredMmio access offset core counter = written-wait (writeFilteredMmio _) core counter
+  by-read-handler : (handler : MemoryHandler) (access : MemoryAccess) (offset : ℕ) → After (readThrough handler access offset core counter)
+  unfolding readThrough readFilteredMmio
+  by-read-handler Absent access offset = same
+  by-read-handler FilteredMmio access offset =
+      let asked : MemoryReadAccess = record { ipa = access .ipa; offset = offset; width = access .width } in
+      by-read (readFilteredMmio asked counter .result) (loadsCounter asked) access
 
-in-wait : (kind : MemoryAccessKind) (m : MemoryAccessHandlerMatch) (access : MemoryAccess) (core : Core) (counter : ℕ)
-    → accessIn kind m access core counter .core .wait ≡ core .wait
-unfolding accessIn
-in-wait Read m access core counter = read-through-wait (m .region .handler .read) access (m .offset) core counter
-in-wait Write m access core counter = write-through-wait (m .region .handler .write) access (m .offset) core counter
+  by-write-handler : (handler : MemoryHandler) (access : MemoryAccess) (offset : ℕ) → After (writeThrough handler access offset core counter)
+  unfolding writeThrough
+  by-write-handler Absent access offset = same
+  by-write-handler FilteredMmio access offset = by-write (writeFilteredMmio _)
 
-found-wait : (found : RegionFound) (access : MemoryAccess) (core : Core) (counter : ℕ)
-    → accessFound found access core counter .core .wait ≡ core .wait
-found-wait Nothing access core counter = refl
-found-wait (Match m) access core counter = in-wait (access .kind) m access core counter
+  by-kind : (kind : MemoryAccessKind) (m : MemoryAccessHandlerMatch) (access : MemoryAccess) → After (accessIn kind m access core counter)
+  unfolding accessIn
+  by-kind Read m access = by-read-handler (m .region .handler .read) access (m .offset)
+  by-kind Write m access = by-write-handler (m .region .handler .write) access (m .offset)
 
-decoded-wait : (decoded : Decoded) (regions : List MemoryAccessRegion) (core : Core) (counter : ℕ)
-    → accessDecoded decoded regions core counter .core .wait ≡ core .wait
-decoded-wait NoSyndrome regions core counter = refl
-decoded-wait (Access access) regions core counter = found-wait (findRegion regions (access .ipa)) access core counter
+  by-found : (found : RegionFound) (access : MemoryAccess) → After (accessFound found access core counter)
+  by-found Nothing access = same
+  by-found (Match m) access = by-kind (access .kind) m access
 
-done-wait : (o : AccessOutcome) (wait : Wait) (accessed : Accessed) (injection : AbortStep) → accessed .core .wait ≡ wait
-    → injection .core .wait ≡ wait → abortDone o accessed injection .core .wait ≡ wait
-done-wait (Handled kind) wait accessed injection h k = h
-done-wait Unhandled wait accessed injection h k = k
+  by-decoded : (decoded : Decoded) (regions : List MemoryAccessRegion) → After (accessDecoded decoded regions core counter)
+  by-decoded NoSyndrome regions = same
+  by-decoded (Access access) regions = by-found (findRegion regions (access .ipa)) access
 
+  by-outcome : (o : AccessOutcome) (accessed : Accessed) (injection : AbortStep) → After accessed → P (injection .core) (injection .counter)
+      → P (abortDone o accessed injection .core) (abortDone o accessed injection .counter)
+  by-outcome (Handled kind) accessed injection h k = h
+  by-outcome Unhandled accessed injection h k = k
+
+  pub abort-all : (regions : List MemoryAccessRegion) (trap : TrapRegisters) → P (injected core trap) counter
+      → P (handleDataAbort regions core counter trap .core) (handleDataAbort regions core counter trap .counter)
+  unfolding handleDataAbort tryMemoryAccess injectDataAbort
+  abort-all regions trap injection =
+      by-outcome (tryMemoryAccess regions core counter trap .outcome) (tryMemoryAccess regions core counter trap) (injectDataAbort core counter trap)
+      (by-decoded (decodeAccess (iss (trap .esr)) (trap .fipa) (trap .far)) regions)
+      (cond-all (λ (s : AbortStep). P (s .core) (s .counter)) (eqb (trap .vbar) 0) _ _ same injection)
+
+-- a data abort leaves what the core waits for
 pub abort-wait : (regions : List MemoryAccessRegion) (core : Core) (counter : ℕ) (trap : TrapRegisters)
     → handleDataAbort regions core counter trap .core .wait ≡ core .wait
-unfolding handleDataAbort tryMemoryAccess injectDataAbort injected
+unfolding advancePc injected
 abort-wait regions core counter trap =
-    done-wait (tryMemoryAccess regions core counter trap .outcome) (core .wait) (tryMemoryAccess regions core counter trap)
-    (injectDataAbort core counter trap)
-    (decoded-wait (decodeAccess (iss (trap .esr)) (trap .fipa) (trap .far)) regions core counter)
-    (cond-all (λ (s : AbortStep). s .core .wait ≡ core .wait) (eqb (trap .vbar) 0) _ _ refl refl)
+    abort-all (λ c n. c .wait ≡ core .wait) core counter refl
+    (λ access value loads. write-wait core (access .«register_index») (extendReadResult access value))
+    refl
+    regions trap refl

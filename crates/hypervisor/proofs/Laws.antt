@@ -7,11 +7,16 @@ use lib.Dec.{eqb}
 use Rattle.hypervisor.specs.declared.ExceptionClass.{ExceptionClass}
 use Rattle.hypervisor.specs.declared.ExceptionClass.the-variants.{HvcTrappedInAArch64, SmcTrappedInAArch64, DataAbortLowerEl, Unknown}
 use mathlib.Core.List.{List}
+use Rattle.lists.proofs.Laws.{cond-all}
 use Rattle.stage2_range.specs.declared.MemoryAccessRegion.{MemoryAccessRegion}
+use Rattle.exceptions.specs.declared.Conduit.{Conduit}
+use Rattle.exceptions.specs.declared.Conduit.the-variants.{Hvc, Smc}
 use Rattle.exceptions.specs.declared.Core.{Core}
 use Rattle.data_abort.specs.declared.TrapRegisters.{TrapRegisters}
-use Rattle.forwarded_call.specs.ForwardedCall.{waits}
-use Rattle.hypervisor.specs.Answers.{refused}
+use Rattle.data_abort.specs.DataAbort.{handleDataAbort}
+use Rattle.forwarded_call.specs.ForwardedCall.{waits, forwardCall}
+use Rattle.hypervisor.specs.declared.TrapStep.{TrapStep}
+use Rattle.hypervisor.specs.Answers.{answered, refused}
 use Rattle.hypervisor.specs.Trap.{ec, classOf, exceptionClass, isDataAbort, byClass, handleSyncLower}
 
 -- what holds of each class where its EC is the one, holds of the class of an EC
@@ -57,3 +62,18 @@ other-regions regions regions′ core counter trap h = ap (cond (waits (core .wa
     go SmcTrappedInAArch64 e = refl
     go DataAbortLowerEl e = absurd (true≢false e)
     go Unknown e = refl
+
+-- what holds of the core and the counter as they were, after a forwarded call and after a data abort, holds after a trap
+pub trap-all : (P : Core → ℕ → Type 0) (regions : List MemoryAccessRegion) (core : Core) (counter : ℕ) (trap : TrapRegisters) → P core counter
+    → ((conduit : Conduit) → P (forwardCall core conduit .core) counter)
+    → P (handleDataAbort regions core counter trap .core) (handleDataAbort regions core counter trap .counter)
+    → P (handleSyncLower regions core counter trap .core) (handleSyncLower regions core counter trap .counter)
+unfolding handleSyncLower byClass answered
+trap-all P regions core counter trap same call abort =
+    cond-all (λ (s : TrapStep). P (s .core) (s .counter)) (waits (core .wait)) _ _ same (go (exceptionClass (trap .esr)))
+  where
+    go : (class : ExceptionClass) → P (byClass class regions core counter trap .core) (byClass class regions core counter trap .counter)
+    go HvcTrappedInAArch64 = call Hvc
+    go SmcTrappedInAArch64 = call Smc
+    go DataAbortLowerEl = abort
+    go Unknown = same

@@ -8,8 +8,8 @@ use native.Mathlib.Nat.{add-zero}
 use lib.Dec.{eqb}
 use borrow.Author.Tests.{ne-eqb}
 use lib.ListN.{length, getD}
-use Rattle.words.specs.Words.{wordAt, withWords, keptCode}
-use Rattle.words.proofs.RoundTrip.{Every, FitsWord, Lent, word-back, word-fits, code-fits, meaning-back}
+use Rattle.words.specs.Words.{wordAt, withWords, keptCode, FitsWord, Lent}
+use Rattle.words.proofs.RoundTrip.{Every, word-back, word-fits, code-fits, meaning-back}
 use Rattle.words.proofs.Records.{InWords, record-written, record-kept}
 use Rattle.simple_map.specs.declared.OptionItem.{OptionItem}
 use Rattle.simple_map.specs.declared.OptionItem.the-variants.{None, Some}

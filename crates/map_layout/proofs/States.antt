@@ -1,11 +1,10 @@
 -- Laws of the whole suspend map in lent bytes: zero bytes are the empty one, and what was stored is read back. Assumes nothing.
-use Prim.Native.Nat.{_*_}
+use Prim.Native.Nat.{ℕ, _*_}
 use mathlib.Core.Path.{_≡_}
 use mathlib.Core.List.{List}
-use Prim.Native.Nat.{ℕ}
 use lib.ListN.{length, replicate}
-use Rattle.words.specs.Words.{wordAt, each}
-use Rattle.words.proofs.RoundTrip.{Every, Lent, array-back, lent-words}
+use Rattle.words.specs.Words.{wordAt, each, Lent}
+use Rattle.words.proofs.RoundTrip.{Every, store-stays, array-back, lent-words}
 use Rattle.words.proofs.Records.{each-constant, zero-record}
 use Rattle.simple_map.specs.declared.Place.{Place}
 use Rattle.simple_map.specs.Map.{emptyMap}
@@ -27,3 +26,9 @@ places-back b items lent all fits = λ i. record { items = places i }
     places =
         array-back placeAt withPlace (Lent 256) (λ p. ItemFits (p .item)) 8
         (λ c k p h. lent-words c (4 * k) (placeWords (wordAt c (4 * k)) (p .item)) h) place-back place-beside items b lent all fits
+
+-- the bytes with other places are lent bytes
+pub places-lent : (b : List ℕ) (items : List Place) → Lent 256 b → Lent 256 (withPlaces b items)
+unfolding withPlaces withPlace
+places-lent b items lent =
+    store-stays withPlace (Lent 256) (λ c k p h. lent-words c (4 * k) (placeWords (wordAt c (4 * k)) (p .item)) h) items b 0 lent

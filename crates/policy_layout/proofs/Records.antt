@@ -5,9 +5,9 @@ use mathlib.Core.List.{List, [], _∷_}
 use native.Mathlib.Omega.{arith}
 use native.Mathlib.Nat.{add-zero, zero-add}
 use lib.ListN.{length, getD, List·getD-eq-default}
-use Rattle.words.specs.Words.{wordAt, each, keptCode}
+use Rattle.words.specs.Words.{wordAt, each, keptCode, FitsWord, Lent}
 use Rattle.words.proofs.Words.{getD-each}
-use Rattle.words.proofs.RoundTrip.{Every, FitsWord, Lent, words-beside, word-fits, code-fits, meaning-back}
+use Rattle.words.proofs.RoundTrip.{Every, words-beside, word-fits, code-fits, meaning-back}
 use Rattle.words.proofs.Records.{InWords, record-written, record-kept}
 use Rattle.stage2_range.specs.declared.Stage2Range.{Stage2Range}
 use Rattle.stage2_range.specs.declared.MemoryAccessRegion.{MemoryAccessRegion}

@@ -4,8 +4,8 @@ use mathlib.Core.Path.{_≡_, _∙_}
 use mathlib.Core.List.{List, [], _∷_}
 use native.Mathlib.Omega.{arith}
 use lib.ListN.{length, replicate}
-use Rattle.words.specs.Words.{each, storeEach, withWords}
-use Rattle.words.proofs.RoundTrip.{Every, FitsWord, Lent, store-keeps, counted, counted-back, length-words, words-beside, lent-words}
+use Rattle.words.specs.Words.{each, storeEach, withWords, FitsWord, Lent}
+use Rattle.words.proofs.RoundTrip.{Every, store-stays, store-keeps, counted, counted-back, length-words, words-beside, lent-words}
 use Rattle.words.proofs.Records.{record-kept, each-constant, zero-word, zero-record, array-kept}
 use Rattle.stage2_range.specs.declared.Stage2Range.{Stage2Range}
 use Rattle.stage2_range.specs.declared.MemoryAccessRegion.{MemoryAccessRegion}
@@ -69,3 +69,16 @@ regions-back b rs n lent all fits count = λ i. policyOf (rest i) (own i)
     rest =
         allowed-kept (storeEach withRegion b 0 rs) 209 (n ∷ []) (omega arith)
         ∙ store-keeps withRegion (counted rangeAt 32 128) rs b 0 (λ c k r l u. allowed-kept c (129 + 5 * k) (regionWords c k r) (omega arith))
+
+-- the bytes with other ranges or regions are lent bytes
+pub allowed-lent : (b : List ℕ) (rs : List Stage2Range) (n : ℕ) → Lent 1680 b → Lent 1680 (withAllowed b rs n)
+unfolding withAllowed withRange
+allowed-lent b rs n lent =
+    lent-words (storeEach withRange b 0 rs) 128 (n ∷ [])
+    (store-stays withRange (Lent 1680) (λ c k r h. lent-words c (4 * k) (rangeWords r) h) rs b 0 lent)
+
+pub regions-lent : (b : List ℕ) (rs : List MemoryAccessRegion) (n : ℕ) → Lent 1680 b → Lent 1680 (withRegions b rs n)
+unfolding withRegions withRegion
+regions-lent b rs n lent =
+    lent-words (storeEach withRegion b 0 rs) 209 (n ∷ [])
+    (store-stays withRegion (Lent 1680) (λ c k r h. lent-words c (129 + 5 * k) (regionWords c k r) h) rs b 0 lent)

@@ -80,7 +80,7 @@ regions-held p r full room =
     ∙ rw (held-within 16 n (p .regions) (omega arith)) (insert-by-base (p .regions) n r (omega arith))
 
 -- an insertion keeps the places
-inserted-places : (regions : List MemoryAccessRegion) (n : ℕ) (r : MemoryAccessRegion) → n < length regions
+pub inserted-places : (regions : List MemoryAccessRegion) (n : ℕ) (r : MemoryAccessRegion) → n < length regions
     → length (insertRegion regions n r) ≡ length regions
 unfolding insertRegion
 inserted-places regions n r h =

@@ -2,3 +2,4 @@
 pub mod Words
 pub mod RoundTrip
 pub mod Records
+pub mod Every

@@ -7,9 +7,9 @@ use native.Mathlib.Nat.{add-zero}
 use lib.ListN.{length, set, take, drop, replicate}
 use lib.Seq.{take-nil, drop-nil}
 use Rattle.lists.proofs.Laws.{cond-same}
-use Rattle.words.specs.Words.{ofBytes, hasWord, wordAt, each, wordsAt, withWords}
+use Rattle.words.specs.Words.{ofBytes, hasWord, wordAt, each, wordsAt, withWords, FitsWord}
 use Rattle.words.proofs.Words.{each-same}
-use Rattle.words.proofs.RoundTrip.{Every, FitsWord, words-beside, words-back}
+use Rattle.words.proofs.RoundTrip.{Every, words-beside, words-back}
 
 -- What is read of the bytes is what `from` makes of the `n` words from `at` on.
 pub record InWords {A : Type 0} (get : List ℕ → A) (from : List ℕ → A) (at n : ℕ) : Type 0 where

@@ -10,26 +10,13 @@ use borrow.Author.Tests.{ltb-false, lt-ltb, eqb-true, eq-eqb}
 use lib.ListN.{length, getD, set, take, drop, List·getD-eq-default}
 use lib.Seq.{sets, getD-set-other, getD-drop}
 use Rattle.lists.proofs.Laws.{cond-all}
-use Rattle.words.specs.Words.{ofBytes, toBytes, hasWord, wordAt, withWord, each, storeEach, wordsAt, withWords, readCode, keptCode}
+use Rattle.words.specs.Words.{ofBytes, toBytes, hasWord, wordAt, withWord, each, storeEach, wordsAt, withWords, readCode, keptCode, FitsWord, Bytes, Lent}
 use Rattle.words.proofs.Words.{getD-each, each-same, length-word, word-all, word-same, word-other}
 
 -- every element has the property
 abbrev pub Every : {A : Type 0} → (A → Type 0) → List A → Type 0
 Every P [] = Unit {0}
 Every P (x ∷ xs) = P x × Every P xs
-
--- a number fits a word
-abbrev pub FitsWord : ℕ → Type 0
-FitsWord w = w < 2 ^ 64
-
--- the elements of a list are bytes
-abbrev pub Bytes : List ℕ → Type 0
-Bytes b = (i : ℕ) → getD b i 0 < 256
-
--- `n` lent bytes
-pub record Lent (n : ℕ) (b : List ℕ) : Type 0 where
-  pub long : length b ≡ n
-  pub bytes : Bytes b
 
 -- what each store keeps, all keep
 pub store-stays : {A : Type 0} (put : List ℕ → ℕ → A → List ℕ) (Good : List ℕ → Type 0) → ((c : List ℕ) (j : ℕ) (x : A) → Good c → Good (put c j x))

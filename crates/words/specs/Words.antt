@@ -1,9 +1,10 @@
 -- Little-endian 64-bit words in bytes, numbered from 0. Assumes nothing.
-use Prim.Native.Nat.{ℕ, zero, suc, _+_, _*_, _/_, _%_}
+use Prim.Native.Nat.{ℕ, zero, suc, _+_, _*_, _/_, _%_, _^_, _<_}
+use mathlib.Core.Path.{_≡_}
 use mathlib.Core.Bool.{Bool, cond}
 use mathlib.Core.List.{List, [], _∷_, _++_}
 use lib.Dec.{eqb, ltb, leb}
-use lib.ListN.{length, take, drop}
+use lib.ListN.{length, getD, take, drop}
 use lib.Seq.{sets}
 
 -- the number of these bytes, the lowest first
@@ -58,3 +59,16 @@ readCode limit word = cond (ltb word limit) word 0
 -- the word to write for a code: a word that reads as the code stays
 unfoldable pub keptCode : ℕ → ℕ → ℕ → ℕ
 keptCode limit word code = cond (eqb (readCode limit word) code) word code
+
+-- a number fits a word
+abbrev pub FitsWord : ℕ → Type 0
+FitsWord w = w < 2 ^ 64
+
+-- the elements of a list are bytes
+abbrev pub Bytes : List ℕ → Type 0
+Bytes b = (i : ℕ) → getD b i 0 < 256
+
+-- `n` lent bytes
+pub record Lent (n : ℕ) (b : List ℕ) : Type 0 where
+  pub long : length b ≡ n
+  pub bytes : Bytes b

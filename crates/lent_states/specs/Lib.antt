@@ -1,0 +1,2 @@
+-- What is said of calls on lent bytes.
+pub mod LentStates
