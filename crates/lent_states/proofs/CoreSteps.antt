@@ -1,8 +1,8 @@
 -- A core whose numbers fit words has them fit after every step. Assumes nothing.
-use Prim.Native.Nat.{ℕ, zero, suc, _+_, _-_, _*_, _%_, _^_, _<_, _≤_}
-use lib.IntN.{ℤ, pos, negsuc}
-use mathlib.Core.Path.{_≡_, refl, sym, ap, _∙_}
-use mathlib.Core.Bool.{Bool, true, false, cond}
+use Prim.Native.Nat.{ℕ, zero, suc, _+_, _-_, _*_, _%_, _^_, _≤_}
+use lib.IntN.{ℤ}
+use mathlib.Core.Path.{_≡_, _∙_}
+use mathlib.Core.Bool.{Bool, cond}
 use mathlib.Core.List.{List, [], _∷_, _++_}
 use native.Mathlib.Omega.{arith}
 use lib.Dec.{eqb, ltb}
@@ -20,7 +20,6 @@ use Rattle.memory_access.specs.Transfer.{lowBits, signExtend, loaded, atRegiste
 use Rattle.stage2_range.specs.declared.MemoryAccessRegion.{MemoryAccessRegion}
 use Rattle.exceptions.specs.declared.Conduit.{Conduit}
 use Rattle.exceptions.specs.declared.Conduit.the-variants.{Hvc, Smc}
-use Rattle.exceptions.specs.declared.Recipient.{Recipient}
 use Rattle.exceptions.specs.declared.Wait.{Wait}
 use Rattle.exceptions.specs.declared.Wait.the-variants as wait
 use Rattle.exceptions.specs.declared.Core.{Core}
@@ -34,7 +33,7 @@ use Rattle.hvc_response.specs.declared.HvcResultKind.the-variants.{Result, Unkn
 use Rattle.hvc_response.specs.Response.{signedWord, response, withFirst, resultOfKind}
 use Rattle.qemu.specs.FilteredMmio.{counterAfter}
 use Rattle.data_abort.specs.declared.TrapRegisters.{TrapRegisters}
-use Rattle.data_abort.specs.DataAbort.{withEc, injected, handleDataAbort}
+use Rattle.data_abort.specs.DataAbort.{withEc, injected}
 use Rattle.data_abort.proofs.Laws.{abort-all}
 use Rattle.forwarded_call.specs.declared.HvcReply.{HvcReply}
 use Rattle.forwarded_call.specs.declared.ReplyAnswer.the-variants as reply

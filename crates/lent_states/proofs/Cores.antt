@@ -1,8 +1,8 @@
 -- Calls on lent cores: the cores and the counter that the bytes then hold are those that the library's call hands back. Assumes nothing.
-use Prim.Native.Nat.{ℕ, _<_, _≤_}
+use Prim.Native.Nat.{ℕ, _≤_}
 use mathlib.Core.Path.{_≡_, refl, sym, subst, _∙_}
 use mathlib.Core.Bool.{Bool, true, false, cond}
-use mathlib.Core.List.{List, [], _∷_}
+use mathlib.Core.List.{List}
 use native.Mathlib.Omega.{arith}
 use borrow.Author.Tests.{ltb-false, eqb-true, eqb-false, le-ltb}
 use lib.Dec.{eqb, ltb}
@@ -25,7 +25,7 @@ use Rattle.hypervisor.specs.Cores.{noCore, noSuchCore, placed, onCore, trappedB
 use Rattle.cores_layout.specs.Layout.{coresAt, withCore, counterAt, withCounter}
 use Rattle.cores_layout.proofs.Records.{core-of, length-cores, core-counter, core-lent, counter-back}
 use Rattle.cores_layout.proofs.States.{cores-back, counter-cores}
-use Rattle.ritm.specs.Interface.{unlessRefused, onEight, steppedCore, trapCall, writeCall}
+use Rattle.ritm.specs.Interface.{unlessRefused, steppedCore, writeCall}
 use Rattle.lent_states.proofs.CoreSteps.{InWords, held-core, written, trapped}
 
 -- bytes hold these cores and this counter

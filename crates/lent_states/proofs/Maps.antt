@@ -14,7 +14,6 @@ use Rattle.words.proofs.Every.{every-each, every-replace}
 use Rattle.simple_map.specs.declared.Insertion.the-variants.{Accepted, CapacityExceeded}
 use Rattle.simple_map.specs.declared.Inserted.{Inserted}
 use Rattle.simple_map.specs.declared.Place.{Place}
-use Rattle.simple_map.specs.declared.SimpleMap.{SimpleMap}
 use Rattle.simple_map.specs.Map.{freePlace, taken, isFree, holdsKey, hasRoom, without, insertItem, insertNumber, removeItem}
 use Rattle.map_layout.specs.Layout.{placeAt, mapAt, withPlaces}
 use Rattle.map_layout.proofs.Records.{ItemFits}

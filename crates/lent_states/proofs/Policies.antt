@@ -12,7 +12,6 @@ use Rattle.words.proofs.RoundTrip.{Every, word-fits}
 use Rattle.words.proofs.Every.{every-each, every-append, every-take, every-drop, every-set, every-insert}
 use Rattle.stage2_range.specs.declared.Stage2Result.{Stage2Result}
 use Rattle.stage2_range.specs.declared.Stage2Result.the-variants.{Accepted, Refused}
-use Rattle.stage2_range.specs.declared.Stage2Range.{Stage2Range}
 use Rattle.stage2_range.specs.declared.MemoryAccessRegion.{MemoryAccessRegion}
 use Rattle.stage2_range.specs.Ranges.{errorNumber, resultNumber}
 use Rattle.stage2_range.specs.Registry.{insertRegion}

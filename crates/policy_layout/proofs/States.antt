@@ -4,7 +4,7 @@ use mathlib.Core.Path.{_≡_, _∙_}
 use mathlib.Core.List.{List, [], _∷_}
 use native.Mathlib.Omega.{arith}
 use lib.ListN.{length, replicate}
-use Rattle.words.specs.Words.{each, storeEach, withWords, FitsWord, Lent}
+use Rattle.words.specs.Words.{storeEach, withWords, FitsWord, Lent}
 use Rattle.words.proofs.RoundTrip.{Every, store-stays, store-keeps, counted, counted-back, length-words, words-beside, lent-words}
 use Rattle.words.proofs.Records.{record-kept, each-constant, zero-word, zero-record, array-kept}
 use Rattle.stage2_range.specs.declared.Stage2Range.{Stage2Range}

@@ -1,14 +1,15 @@
 -- Laws of the calls on a core: above 7 there is none, and one of the eight is stepped by itself. Assumes nothing.
 use Prim.Native.Nat.{ℕ, _<_, _≤_}
-use mathlib.Core.Path.{_≡_, refl, sym, ap, _∙_}
+use mathlib.Core.Path.{_≡_, refl, sym, ap, ap₂, _∙_}
 use mathlib.Core.List.{List, [], _∷_}
 use lib.IntN.{ℤ}
 use native.Mathlib.Omega.{arith}
-use borrow.Author.Tests.{lt-ltb, le-ltb}
+use borrow.Author.Tests.{ne-eqb, lt-ltb, le-ltb}
 use lib.ListN.{getD, set, replicate}
 use lib.Seq.{getD-set-same}
 use Rattle.exceptions.specs.declared.Core.{Core}
-use Rattle.exceptions.specs.Registers.{freshCore}
+use Rattle.exceptions.specs.declared.GprWritten.{GprWritten}
+use Rattle.exceptions.specs.Registers.{freshCore, writeGpr, writeNumber}
 use Rattle.forwarded_call.specs.declared.ReplyAnswer.{ReplyAnswer}
 use Rattle.forwarded_call.specs.declared.ReplyAnswer.the-variants as reply
 use Rattle.forwarded_call.specs.declared.Replied.{Replied}
@@ -19,12 +20,12 @@ use Rattle.hypervisor.specs.declared.CoreStep.{CoreStep}
 use Rattle.hypervisor.specs.declared.TrapStep.{TrapStep}
 use Rattle.hypervisor.specs.Answers.{coreNumber, trapNumber, trapKind, replyAnswer}
 use Rattle.hypervisor.specs.Trap.{handleSyncLower}
-use Rattle.hypervisor.specs.Cores.{noCore, onCore, replyOn, replyStep, trapOn}
-use Rattle.words.specs.Words.{bytesOf, wordsAt}
+use Rattle.hypervisor.specs.Cores.{noCore, onCore, saveCore, saveOn, replyOn, replyStep, trapOn}
+use Rattle.words.specs.Words.{bytesOf, wordAt, wordsAt}
 use Rattle.policy_layout.specs.Layout.{policyAt}
 use Rattle.cores_layout.specs.Layout.{coresAt, withCore, counterAt, withCounter}
 use Rattle.cores_layout.proofs.Records.{core-of, length-cores}
-use Rattle.ritm.specs.Interface.{Left, unlessRefused, steppedCore, replyCall, trapCall}
+use Rattle.ritm.specs.Interface.{Left, unlessRefused, steppedCore, saveCall, replyCall, trapCall, writeCall}
 
 -- one of the eight, whatever stands for a core past them
 pub same-core : (cores : List ℕ) (i : ℕ) → i < 8 → getD (coresAt cores) i noCore ≡ getD (coresAt cores) i freshCore
@@ -70,6 +71,20 @@ module _ (policy cores : List ℕ) (i : ℕ) (trap : TrapRegisters) where
   unfolding trapCall trapOn
   trap-one h = rw (le-ltb 7 i h, same-core cores i (omega arith), replaced cores i (handleSyncLower (regionsHeld (policyAt policy)) (getD (coresAt cores) i freshCore) (counterAt cores) trap .core) (omega arith))
 
+  -- the same, by what the code reads and calls: the core, the counter, the step
+  pub trap-by : (core : Core) (counter : ℕ) (step : TrapStep) → i ≤ 7 → core ≡ getD (coresAt cores) i freshCore → counter ≡ counterAt cores
+      → step ≡ handleSyncLower (regionsHeld (policyAt policy)) core counter trap → trapCall policy cores i trap ≡ trappedOne cores i step
+  trap-by core counter step h c n s =
+      trap-one h ∙ ap (trappedOne cores i) (sym (s ∙ ap₂ (λ (one : Core) (k : ℕ). handleSyncLower (regionsHeld (policyAt policy)) one k trap) c n))
+
+-- A call's state where it is refused, and where it is accepted.
+module _ (number : ℕ) (before after : List ℕ) where
+  pub when-refused : (number ≡ 0 → ⊥) → unlessRefused number before after ≡ before
+  when-refused h = rw (ne-eqb number 0 h)
+
+  pub when-accepted : number ≡ 0 → unlessRefused number before after ≡ after
+  when-accepted h = rw h
+
 -- a reply's number, among those of a core
 reply-number : (answer : ReplyAnswer) → replyNumber answer ≡ coreNumber (replyAnswer answer)
 reply-number reply.Accepted = refl
@@ -93,3 +108,26 @@ reply-one cores i kind values error h =
   where
     stepLeft : List ℕ → ℕ → ℕ → Core → Left
     stepLeft cores i n core = record { number = n; state = unlessRefused n cores (withCore cores i core); result = [] }
+
+-- The same two calls and a write, by what the code reads and calls: the core, and the step.
+pub save-by : (cores registers : List ℕ) (i : ℕ) (x : List ℕ) (elr spsr : ℕ) (core : Core) (step : CoreStep) → i ≤ 7 → x ≡ wordsAt registers 0 31 → elr ≡ wordAt registers 31
+    → spsr ≡ wordAt registers 32 → core ≡ getD (coresAt cores) i freshCore → step ≡ saveCore core x elr spsr → saveCall cores i registers ≡ steppedOne cores i step
+unfolding saveCall saveOn
+save-by cores registers i x elr spsr core step h ex el es c s =
+    step-one cores i (λ one. saveCore one (wordsAt registers 0 31) (wordAt registers 31) (wordAt registers 32)) h
+    ∙ rw (s, c, ex, el, es)
+
+pub reply-by : (cores values : List ℕ) (i kind : ℕ) (error : ℤ) (held : List ℕ) (core : Core) (r : Replied) → i ≤ 7 → held ≡ wordsAt values 0 18
+    → core ≡ getD (coresAt cores) i freshCore → r ≡ replyCore core (record { kind = kind; values = held; error = error }) → replyCall cores i kind values error ≡ repliedOne cores i r
+reply-by cores values i kind error held core r h v c s = reply-one cores i kind values error h ∙ rw (s, c, v)
+
+-- what a write to one core leaves
+abbrev pub writtenOne : List ℕ → ℕ → GprWritten → Left
+writtenOne cores i w =
+    let number = writeNumber (w .answer) in
+    record { number = number; state = unlessRefused number cores (withCore cores i (w .core)); result = [] }
+
+pub write-by : (cores : List ℕ) (i index value : ℕ) (core : Core) (w : GprWritten) → i ≤ 7 → core ≡ getD (coresAt cores) i freshCore → w ≡ writeGpr core index value
+    → writeCall cores i index value ≡ writtenOne cores i w
+unfolding writeCall
+write-by cores i index value core w h c s = rw (le-ltb 7 i h, same-core cores i (omega arith), s, c)

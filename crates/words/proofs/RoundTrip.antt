@@ -7,7 +7,7 @@ use native.Mathlib.Omega.{arith}
 use native.Mathlib.Nat.{zero-add}
 use lib.Dec.{eqb, ltb}
 use borrow.Author.Tests.{ltb-false, lt-ltb, eqb-true, eq-eqb}
-use lib.ListN.{length, getD, set, take, drop, List·getD-eq-default}
+use lib.ListN.{length, getD, set, take, drop}
 use lib.Seq.{sets, getD-set-other, getD-drop}
 use Rattle.lists.proofs.Laws.{cond-all}
 use Rattle.words.specs.Words.{ofBytes, toBytes, hasWord, wordAt, withWord, each, storeEach, wordsAt, withWords, readCode, keptCode, FitsWord, Bytes, Lent}

@@ -1,13 +1,14 @@
 use borrow.Author.Needs.{needs}
-use borrow.Author.Tests.{ne-eqb, le-ltb}
-use Rattle.ritm.specs.Interface.{replyCall}
+use borrow.Author.Tests.{le-ltb}
+use Rattle.ritm.specs.Interface.{Left, replyCall}
 use Rattle.forwarded_call.specs.ForwardedCall.{replyCore}
 use Rattle.hypervisor.specs.Cores.{replyOn, replyStep}
 use Rattle.words.specs.Words.{wordsAt}
 use native.Mathlib.Omega.{arith}
 use mir.Syntax.{w32}
 use mir.ValLaws.{toZ-ofZ}
-use Rattle.ritm.proofs.Cores.{step-none, reply-one}
+use mathlib.Core.Path.{sym, ap, _∙_}
+use Rattle.ritm.proofs.Cores.{step-none, reply-by, when-refused, when-accepted}
 use Rattle.ritm.proofs.ritm_reply.Statement.{statement}
 use Rattle.ritm.proofs.ritm_reply.Tie as tie
 
@@ -33,20 +34,29 @@ number-requires-2 : tie.Need-number-requires-2
 number-requires-2 c κs = search needs
 
 returns-2 : tie.Need-returns-2
-returns-2 c = let a = c .before .before .before .before .before .before .before .args in
-    let z = toZ-ofZ w32 (a .error) (c .before .before .before .before .before .before .before .fits .error) in
-    let e = reply-one (a .cores .now) (a .core) (a .kind) (a .values .now) (a .error) (omega arith) in
-    (rw (e, ← c .before .before .before .before .before .get-values .ensures, ← c .before .before .before .get-core .ensures, ← z, ← c .before .before .reply-core .ensures, ← c .before .number2 .ensures), rw (e, ← c .before .before .before .before .before .get-values .ensures, ← c .before .before .before .get-core .ensures, ← z, ← c .before .before .reply-core .ensures, ← c .before .number2 .ensures, ne-eqb _ _ (c .if2 .taken)))
+returns-2 c = let s = c .before .before in
+    let start = s .before .before .before .before .before in
+    let a = start .args in
+    let z = toZ-ofZ w32 (a .error) (start .fits .error) in
+    let q = reply-by (a .cores .now) (a .values .now) (a .core) (a .kind) (a .error) _ _ _ (omega arith) (s .before .before .before .get-values .ensures) (s .before .get-core .ensures) (rw z at (s .reply-core .ensures)) in
+    let number = c .before .number2 in (
+      number .ensures ∙ sym (ap (λ (l : Left). l .number) q),
+      sym (ap (λ (l : Left). l .state) q ∙ when-refused _ _ _ (rw (number .ensures) at (c .if2 .taken))),
+    )
 
 put-core-requires : tie.Need-put-core-requires
 put-core-requires c κs = search needs
 
 returns-3 : tie.Need-returns-3
-returns-3 c = let a = c .before .before .before .before .before .before .before .before .before .before .args in
-    let z = toZ-ofZ w32 (a .error) (c .before .before .before .before .before .before .before .before .before .before .fits .error) in
-    let e = reply-one (a .cores .now) (a .core) (a .kind) (a .values .now) (a .error) (omega arith) in
-    let n = c .before .before .before .if2 .left in
-    (rw (e, ← c .before .before .before .before .before .before .before .before .get-values .ensures, ← c .before .before .before .before .before .before .get-core .ensures, ← z, ← c .before .before .before .before .before .reply-core .ensures, ← c .before .before .before .before .number2 .ensures, n), rw (e, ← c .before .before .before .before .before .before .before .before .get-values .ensures, ← c .before .before .before .before .before .before .get-core .ensures, ← z, ← c .before .before .before .before .before .reply-core .ensures, ← c .before .before .before .before .number2 .ensures, n, c .put-core .ensures, le-ltb 7 (a .core) (omega arith)))
+returns-3 c = let s = c .before .before .before .before .before in
+    let start = s .before .before .before .before .before in
+    let a = start .args in
+    let z = toZ-ofZ w32 (a .error) (start .fits .error) in
+    let q = reply-by (a .cores .now) (a .values .now) (a .core) (a .kind) (a .error) _ _ _ (omega arith) (s .before .before .before .get-values .ensures) (s .before .get-core .ensures) (rw z at (s .reply-core .ensures)) in
+    let zero = sym (c .before .before .before .before .number2 .ensures) ∙ c .before .before .before .if2 .left in (
+      sym (ap (λ (l : Left). l .number) q ∙ zero),
+      rw (c .put-core .ensures, le-ltb 7 (a .core) (omega arith)) (sym (ap (λ (l : Left). l .state) q ∙ when-accepted _ _ _ zero)),
+    )
 
 pub ritm-reply-spec : {M : Type 1} → statement M
 ritm-reply-spec =

@@ -1,10 +1,10 @@
 use borrow.Author.Needs.{needs}
-use borrow.Author.Tests.{ne-eqb}
-use Rattle.ritm.specs.Interface.{saveCall}
+use Rattle.ritm.specs.Interface.{Left, saveCall}
 use Rattle.hypervisor.specs.Cores.{saveOn, saveCore}
 use native.Mathlib.Omega.{arith}
-use Rattle.ritm.proofs.Cores.{step-none, step-one}
-use borrow.Author.Tests.{ne-eqb, le-ltb}
+use mathlib.Core.Path.{sym, ap, _∙_}
+use Rattle.ritm.proofs.Cores.{step-none, save-by, when-refused, when-accepted}
+use borrow.Author.Tests.{le-ltb}
 use Rattle.words.specs.Words.{wordAt, wordsAt}
 use Rattle.ritm.proofs.ritm_save.Statement.{statement}
 use Rattle.ritm.proofs.ritm_save.Tie as tie
@@ -37,23 +37,24 @@ number-requires-2 : tie.Need-number-requires-2
 number-requires-2 c κs = search needs
 
 returns-2 : tie.Need-returns-2
-unfolding saveCall saveOn
-returns-2 c = let a = c .before .before .before .before .before .before .before .before .before .args in
-    let e = step-one (a .cores .now) (a .core) (λ one. saveCore one (wordsAt (a .registers .now) 0 31) (wordAt (a .registers .now) 31) (wordAt (a .registers .now) 32)) (omega arith) in (
-      rw (e, ← c .before .before .before .before .before .before .before .get-saved-x .ensures, ← c .before .before .before .before .before .before .get-saved-elr .ensures, ← c .before .before .before .before .before .get-saved-spsr .ensures, ← c .before .before .before .get-core .ensures, ← c .before .before .save-core .ensures, ← c .before .number2 .ensures),
-      rw (e, ← c .before .before .before .before .before .before .before .get-saved-x .ensures, ← c .before .before .before .before .before .before .get-saved-elr .ensures, ← c .before .before .before .before .before .get-saved-spsr .ensures, ← c .before .before .before .get-core .ensures, ← c .before .before .save-core .ensures, ← c .before .number2 .ensures, ne-eqb _ _ (c .if2 .taken)),
+returns-2 c = let s = c .before .before in
+    let a = s .before .before .before .before .before .before .before .args in
+    let q = save-by (a .cores .now) (a .registers .now) (a .core) _ _ _ _ _ (omega arith) (s .before .before .before .before .before .get-saved-x .ensures) (s .before .before .before .before .get-saved-elr .ensures) (s .before .before .before .get-saved-spsr .ensures) (s .before .get-core .ensures) (s .save-core .ensures) in
+    let number = c .before .number2 in (
+      number .ensures ∙ sym (ap (λ (l : Left). l .number) q),
+      sym (ap (λ (l : Left). l .state) q ∙ when-refused _ _ _ (rw (number .ensures) at (c .if2 .taken))),
     )
 
 put-core-requires : tie.Need-put-core-requires
 put-core-requires c κs = search needs
 
 returns-3 : tie.Need-returns-3
-unfolding saveCall saveOn
-returns-3 c = let a = c .before .before .before .before .before .before .before .before .before .before .before .before .args in
-    let e = step-one (a .cores .now) (a .core) (λ one. saveCore one (wordsAt (a .registers .now) 0 31) (wordAt (a .registers .now) 31) (wordAt (a .registers .now) 32)) (omega arith) in
-    let n = c .before .before .before .if2 .left in (
-      rw (e, ← c .before .before .before .before .before .before .before .before .before .before .get-saved-x .ensures, ← c .before .before .before .before .before .before .before .before .before .get-saved-elr .ensures, ← c .before .before .before .before .before .before .before .before .get-saved-spsr .ensures, ← c .before .before .before .before .before .before .get-core .ensures, ← c .before .before .before .before .before .save-core .ensures, ← c .before .before .before .before .number2 .ensures, n),
-      rw (e, ← c .before .before .before .before .before .before .before .before .before .before .get-saved-x .ensures, ← c .before .before .before .before .before .before .before .before .before .get-saved-elr .ensures, ← c .before .before .before .before .before .before .before .before .get-saved-spsr .ensures, ← c .before .before .before .before .before .before .get-core .ensures, ← c .before .before .before .before .before .save-core .ensures, ← c .before .before .before .before .number2 .ensures, n, c .put-core .ensures, le-ltb 7 (a .core) (omega arith)),
+returns-3 c = let s = c .before .before .before .before .before in
+    let a = s .before .before .before .before .before .before .before .args in
+    let q = save-by (a .cores .now) (a .registers .now) (a .core) _ _ _ _ _ (omega arith) (s .before .before .before .before .before .get-saved-x .ensures) (s .before .before .before .before .get-saved-elr .ensures) (s .before .before .before .get-saved-spsr .ensures) (s .before .get-core .ensures) (s .save-core .ensures) in
+    let zero = sym (c .before .before .before .before .number2 .ensures) ∙ c .before .before .before .if2 .left in (
+      sym (ap (λ (l : Left). l .number) q ∙ zero),
+      rw (c .put-core .ensures, le-ltb 7 (a .core) (omega arith)) (sym (ap (λ (l : Left). l .state) q ∙ when-accepted _ _ _ zero)),
     )
 
 pub ritm-save-spec : {M : Type 1} → statement M

@@ -1,7 +1,9 @@
 use borrow.Author.Needs.{needs}
-use borrow.Author.Tests.{ne-eqb, le-ltb}
+use borrow.Author.Tests.{le-ltb}
 use native.Mathlib.Omega.{arith}
-use Rattle.ritm.proofs.Cores.{trap-none, trap-one}
+use mathlib.Core.Path.{sym, ap, _∙_}
+use Rattle.ritm.specs.Interface.{Left}
+use Rattle.ritm.proofs.Cores.{trap-none, trap-by, when-refused, when-accepted}
 use Rattle.ritm.proofs.ritm_trap.Statement.{statement}
 use Rattle.ritm.proofs.ritm_trap.Tie as tie
 
@@ -35,11 +37,13 @@ number-requires-2 : tie.Need-number-requires-2
 number-requires-2 c κs = search needs
 
 returns-2 : tie.Need-returns-2
-returns-2 c = let a = c .before .before .before .before .before .before .before .before .before .before .before .before .args in
-    let e = trap-one (a .policy .now) (a .cores .now) (a .core) (record { esr = a .esr; fipa = record { 0 = a .fipa }; far = a .far; vbar = a .vbar }) (omega arith) in (
-      rw (e, ← c .before .before .before .before .before .before .before .get-counter .ensures, ← c .before .before .before .before .before .before .before .before .before .get-core .ensures, ← c .before .before .before .before .before .before .trap-core .ensures, ← c .before .number2 .ensures),
-      rw (e, ← c .before .before .before .before .before .before .before .get-counter .ensures, ← c .before .before .before .before .before .before .before .before .before .get-core .ensures, ← c .before .before .before .before .before .before .trap-core .ensures, ← c .before .number2 .ensures, ne-eqb _ _ (c .if2 .taken)),
-      rw (e, ← c .before .before .before .before .before .before .before .get-counter .ensures, ← c .before .before .before .before .before .before .before .before .before .get-core .ensures, ← c .before .before .before .before .before .before .trap-core .ensures, ← c .before .before .before .kind .ensures) (c .before .before .put-trap-result2 .ensures),
+returns-2 c = let s = c .before .before .before .before .before .before in
+    let a = s .before .before .before .before .before .before .args in
+    let q = trap-by (a .policy .now) (a .cores .now) (a .core) _ _ _ _ (omega arith) (s .before .before .before .get-core .ensures) (s .before .get-counter .ensures) (s .trap-core .ensures) in
+    let number = c .before .number2 in (
+      number .ensures ∙ sym (ap (λ (l : Left). l .number) q),
+      sym (ap (λ (l : Left). l .state) q ∙ when-refused _ _ _ (rw (number .ensures) at (c .if2 .taken))),
+      rw (q, ← c .before .before .before .kind .ensures) (c .before .before .put-trap-result2 .ensures),
     )
 
 put-core-requires : tie.Need-put-core-requires
@@ -49,12 +53,13 @@ put-counter-requires : tie.Need-put-counter-requires
 put-counter-requires c κs = search needs
 
 returns-3 : tie.Need-returns-3
-returns-3 c = let a = c .before .before .before .before .before .before .before .before .before .before .before .before .before .before .before .before .before .args in
-    let e = trap-one (a .policy .now) (a .cores .now) (a .core) (record { esr = a .esr; fipa = record { 0 = a .fipa }; far = a .far; vbar = a .vbar }) (omega arith) in
-    let n = c .before .before .before .before .before .if2 .left in (
-      rw (e, ← c .before .before .before .before .before .before .before .before .before .before .before .before .get-counter .ensures, ← c .before .before .before .before .before .before .before .before .before .before .before .before .before .before .get-core .ensures, ← c .before .before .before .before .before .before .before .before .before .before .before .trap-core .ensures, ← c .before .before .before .before .before .before .number2 .ensures, n),
-      rw (e, ← c .before .before .before .before .before .before .before .before .before .before .before .before .get-counter .ensures, ← c .before .before .before .before .before .before .before .before .before .before .before .before .before .before .get-core .ensures, ← c .before .before .before .before .before .before .before .before .before .before .before .trap-core .ensures, ← c .before .before .before .before .before .before .number2 .ensures, n, c .put-counter .ensures, c .before .before .put-core .ensures, le-ltb 7 (a .core) (omega arith)),
-      rw (e, ← c .before .before .before .before .before .before .before .before .before .before .before .before .get-counter .ensures, ← c .before .before .before .before .before .before .before .before .before .before .before .before .before .before .get-core .ensures, ← c .before .before .before .before .before .before .before .before .before .before .before .trap-core .ensures, ← c .before .before .before .before .before .before .before .before .kind .ensures) (c .before .before .before .before .before .before .before .put-trap-result2 .ensures),
+returns-3 c = let s = c .before .before .before .before .before .before .before .before .before .before .before in
+    let a = s .before .before .before .before .before .before .args in
+    let q = trap-by (a .policy .now) (a .cores .now) (a .core) _ _ _ _ (omega arith) (s .before .before .before .get-core .ensures) (s .before .get-counter .ensures) (s .trap-core .ensures) in
+    let zero = sym (c .before .before .before .before .before .before .number2 .ensures) ∙ c .before .before .before .before .before .if2 .left in (
+      sym (ap (λ (l : Left). l .number) q ∙ zero),
+      rw (c .put-counter .ensures, c .before .before .put-core .ensures, le-ltb 7 (a .core) (omega arith)) (sym (ap (λ (l : Left). l .state) q ∙ when-accepted _ _ _ zero)),
+      rw (q, ← c .before .before .before .before .before .before .before .before .kind .ensures) (c .before .before .before .before .before .before .before .put-trap-result2 .ensures),
     )
 
 pub ritm-trap-spec : {M : Type 1} → statement M
