@@ -31,10 +31,10 @@ use Rattle.cores_layout.proofs.Records.{core-lent, counter-lent}
 use Rattle.cores_layout.proofs.States.{fresh-cores, fresh-counter}
 use Rattle.map_layout.specs.Layout.{mapAt, withPlaces}
 use Rattle.map_layout.proofs.States.{fresh-map, places-lent}
-use Rattle.ritm.specs.Interface.{unlessRefused, onEight, allowCall, handleCall, steppedCore, saveCall, trapCall, replyCall, writeCall, insertCall, removeCall}
-use Rattle.order_independence.specs.Calls.{State, freshState, answerNumber, answerValues, call, callAll}
+use Rattle.ritm.specs.Interface.{unlessRefused, onEight, allowCall, handleCall, steppedCore, saveCall, trapCall, replyCall, writeCall, insertCall, getCall, removeCall}
+use Rattle.order_independence.specs.Calls.{State, freshState, answerNumber, call, callAll}
 use Rattle.order_independence.proofs.Calls.{refusal-keeps}
-use Rattle.lent_states.specs.LentStates.{Buffers, stateIn, Entry, ritm-allow-range, ritm-handle-range, ritm-save, ritm-trap, ritm-reply, ritm-write-gpr, ritm-insert, ritm-remove, left, withPolicy, withCores, withMap, after, afterAll, hostCall, Typed, AllTyped, Sized}
+use Rattle.lent_states.specs.LentStates.{Buffers, stateIn, Entry, ritm-allow-range, ritm-handle-range, ritm-save, ritm-trap, ritm-reply, ritm-write-gpr, ritm-insert, ritm-get, ritm-remove, left, withPolicy, withCores, withMap, after, afterAll, hostCall, resultWords, Typed, AllTyped, Sized}
 use Rattle.lent_states.proofs.Policies.{allow-held, handle-held}
 use Rattle.lent_states.proofs.Maps.{insert-held, remove-held}
 use Rattle.lent_states.proofs.CoreSteps.{saved, replied-core}
@@ -69,7 +69,7 @@ module _ (b : Buffers) (sized : Sized b) where
 
   -- A call leaves in the bytes the state that the host's call hands back, of the state that they held.
   pub held-state : (e : Entry) → Typed e → stateIn (after b e) ≡ call (stateIn b) (hostCall e) .state
-  unfolding saveCall saveOn replyCall replyOn trapCall
+  unfolding saveCall saveOn replyCall replyOn trapCall getCall
   held-state (ritm-allow-range base size attributes) t =
       policy-held _ _ (allow-held (b .policy) base size attributes (sized .policy) (t .0) (t .1) (t .2))
   held-state (ritm-handle-range base size read write) t =
@@ -100,11 +100,12 @@ module _ (b : Buffers) (sized : Sized b) where
       (written-held (b .cores) core (sized .cores) index value (t .0) (t .1) (λ h. ap (λ (s : State). s .cores) (kept (ritm-write-gpr core index value) h)))
   held-state (ritm-insert key entry context) t =
       map-held _ _ (insert-held (b .map) key (sized .map) entry context (t .0) (t .1) (t .2))
+  held-state (ritm-get key) t = refl
   held-state (ritm-remove key) t = map-held _ _ (remove-held (b .map) key (sized .map))
 
 -- The number that a call returns is that of the host's call.
 pub same-number : (b : Buffers) (e : Entry) → Typed e → left b e .number ≡ answerNumber (call (stateIn b) (hostCall e) .answer)
-unfolding allowCall handleCall saveCall replyCall steppedCore trapCall writeCall insertCall removeCall
+unfolding allowCall handleCall saveCall replyCall steppedCore trapCall writeCall insertCall getCall removeCall
 same-number b (ritm-allow-range base size attributes) t = refl
 same-number b (ritm-handle-range base size read write) t = refl
 same-number b (ritm-save core registers) t = refl
@@ -112,13 +113,21 @@ same-number b (ritm-trap core registers) t = refl
 same-number b (ritm-reply core kind values error) t = refl
 same-number b (ritm-write-gpr core index value) t = rw (le-ltb 7 core (t .0))
 same-number b (ritm-insert key entry context) t = refl
+same-number b (ritm-get key) t = refl
 same-number b (ritm-remove key) t = refl
 
--- A trap's result holds its other result fields.
-pub same-values : (b : Buffers) (core : ℕ) (registers : TrapRegisters)
-    → left b (ritm-trap core registers) .result ≡ bytesOf (answerValues (call (stateIn b) (hostCall (ritm-trap core registers)) .answer))
-unfolding trapCall
-same-values b core registers = refl
+-- Its result holds the result fields of the host's answer.
+pub same-result : (b : Buffers) (e : Entry) → left b e .result ≡ bytesOf (resultWords (call (stateIn b) (hostCall e) .answer))
+unfolding allowCall handleCall saveCall replyCall steppedCore trapCall writeCall insertCall getCall removeCall
+same-result b (ritm-allow-range base size attributes) = refl
+same-result b (ritm-handle-range base size read write) = refl
+same-result b (ritm-save core registers) = refl
+same-result b (ritm-trap core registers) = refl
+same-result b (ritm-reply core kind values error) = refl
+same-result b (ritm-write-gpr core index value) = refl
+same-result b (ritm-insert key entry context) = refl
+same-result b (ritm-get key) = refl
+same-result b (ritm-remove key) = refl
 
 -- Bytes that a call leaves are lent bytes.
 left-lent : {n : ℕ} (number : ℕ) (b next : List ℕ) → Lent n b → Lent n next → Lent n (unlessRefused number b next)
@@ -171,7 +180,7 @@ remove-lent b key h = places-lent b (removeItem (mapAt b) key .map .items) h
 
 -- the buffers after a call are as they must be for the next
 pub still-sized : (b : Buffers) → Sized b → (e : Entry) → Sized (after b e)
-unfolding saveCall replyCall
+unfolding saveCall replyCall getCall
 still-sized b s (ritm-allow-range base size attributes) =
     record { policy = allow-lent (b .policy) base size attributes (s .policy); cores = s .cores; map = s .map }
 still-sized b s (ritm-handle-range base size read write) =
@@ -184,6 +193,7 @@ still-sized b s (ritm-write-gpr core index value) =
     record { policy = s .policy; cores = written-lent (b .cores) core index value (s .cores); map = s .map }
 still-sized b s (ritm-insert key entry context) =
     record { policy = s .policy; cores = s .cores; map = insert-lent (b .map) key entry context (s .map) }
+still-sized b s (ritm-get key) = s
 still-sized b s (ritm-remove key) = record { policy = s .policy; cores = s .cores; map = remove-lent (b .map) key (s .map) }
 
 -- A list of calls leaves in the bytes the state that the host's calls hand back, one after the other.

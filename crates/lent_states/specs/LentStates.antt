@@ -1,4 +1,4 @@
--- The calls of the C interface that may change state, on the bytes that a host lends, beside the calls that they are. Assumes nothing.
+-- The calls of the C interface that are document 01's builder calls and core steps, on the bytes that a host lends, beside the calls that they are. Assumes nothing.
 use Prim.Native.Nat.{ℕ, _≤_}
 use lib.IntN.{ℤ}
 use mathlib.Core.List.{List, [], _∷_, map}
@@ -6,11 +6,12 @@ use Rattle.words.specs.Words.{wordAt, wordsAt, FitsWord, Bytes, Lent}
 use Rattle.stage2.specs.Builds.{allow, handle}
 use Rattle.data_abort.specs.declared.TrapRegisters.{TrapRegisters}
 use Rattle.hvc_response.specs.Response.{signedWord}
+use Rattle.hypervisor.specs.Answers.{trapKind}
 use Rattle.policy_layout.specs.Layout.{policyAt}
 use Rattle.cores_layout.specs.Layout.{coresAt, counterAt}
-use Rattle.map_layout.specs.Layout.{mapAt}
-use Rattle.ritm.specs.Interface.{Left, allowCall, handleCall, saveCall, trapCall, replyCall, writeCall, insertCall, removeCall}
-use Rattle.order_independence.specs.Calls.{State, HostCall, build, core-call, save, trap, reply, write-gpr, by-value, insert, remove}
+use Rattle.map_layout.specs.Layout.{mapAt, entryWords}
+use Rattle.ritm.specs.Interface.{Left, allowCall, handleCall, saveCall, trapCall, replyCall, writeCall, insertCall, getCall, removeCall}
+use Rattle.order_independence.specs.Calls.{State, HostCall, build, core-call, save, trap, reply, write-gpr, by-value, insert, get, remove, Answer, built, stepped, trapped, written, inserted, looked-up}
 
 -- the bytes that a host lends
 pub record Buffers : Type 0 where
@@ -31,6 +32,7 @@ pub data Entry : Type 0 where
   ritm-reply : (core kind : ℕ) (values : List ℕ) (error : ℤ) → Entry
   ritm-write-gpr : (core index value : ℕ) → Entry
   ritm-insert : (key entry context : ℕ) → Entry
+  ritm-get : (key : ℕ) → Entry
   ritm-remove : (key : ℕ) → Entry
 
 -- what it leaves, by the definition that its contract cites
@@ -42,6 +44,7 @@ left b (ritm-trap core registers) = trapCall (b .policy) (b .cores) core registe
 left b (ritm-reply core kind values error) = replyCall (b .cores) core kind values error
 left b (ritm-write-gpr core index value) = writeCall (b .cores) core index value
 left b (ritm-insert key entry context) = insertCall (b .map) key entry context
+left b (ritm-get key) = getCall (b .map) key
 left b (ritm-remove key) = removeCall (b .map) key
 
 -- a buffer replaced
@@ -63,6 +66,7 @@ after b (ritm-trap core registers) = withCores b (left b (ritm-trap core registe
 after b (ritm-reply core kind values error) = withCores b (left b (ritm-reply core kind values error) .state)
 after b (ritm-write-gpr core index value) = withCores b (left b (ritm-write-gpr core index value) .state)
 after b (ritm-insert key entry context) = withMap b (left b (ritm-insert key entry context) .state)
+after b (ritm-get key) = withMap b (left b (ritm-get key) .state)
 after b (ritm-remove key) = withMap b (left b (ritm-remove key) .state)
 
 -- the bytes after a list of calls
@@ -79,7 +83,17 @@ hostCall (ritm-trap core registers) = core-call (trap core registers)
 hostCall (ritm-reply core kind values error) = core-call (reply core (record { kind = kind; values = wordsAt values 0 18; error = error }))
 hostCall (ritm-write-gpr core index value) = core-call (write-gpr by-value core index value)
 hostCall (ritm-insert key entry context) = core-call (insert key (record { «entry_point» = entry; «context_id» = context }))
+hostCall (ritm-get key) = core-call (get key)
 hostCall (ritm-remove key) = core-call (remove key)
+
+-- the words of its result: a trap's kind and values, what a look-up or a remove found; the other calls have none
+abbrev pub resultWords : Answer → List ℕ
+resultWords (built answer) = []
+resultWords (stepped answer) = []
+resultWords (trapped answer values) = trapKind answer ∷ values
+resultWords (written answer) = []
+resultWords (inserted answer) = []
+resultWords (looked-up answer) = entryWords answer
 
 -- what C's types say of the arguments: numbers fit 64 bits, bytes are bytes; and `write_gpr` is "on a record of the eight"
 abbrev pub Typed : Entry → Type 0
@@ -90,6 +104,7 @@ Typed (ritm-trap core registers) = FitsWord (registers .esr) × FitsWord (regist
 Typed (ritm-reply core kind values error) = Bytes values × FitsWord (signedWord error)
 Typed (ritm-write-gpr core index value) = (core ≤ 7) × FitsWord value
 Typed (ritm-insert key entry context) = FitsWord key × FitsWord entry × FitsWord context
+Typed (ritm-get key) = Unit {0}
 Typed (ritm-remove key) = Unit {0}
 
 -- and of the buffers: their lengths
