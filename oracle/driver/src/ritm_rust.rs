@@ -1,0 +1,238 @@
+//! RITM's own Rust, as the side with which the port is compared.
+
+use crate::call::{Answer, Call};
+use memory_access::{MemoryAccess, MemoryAccessKind};
+use reference::hypervisor::SuspendMap;
+use reference::oracle::{self, Core, Oracle, Reply, Trap};
+use reference::stage2::{align_down_to_page, align_up_to_page};
+
+/// How many cores there are.
+pub const CORES: usize = 8;
+
+/// The exception classes that RITM handles.
+const HVC: u64 = 0x16;
+const SMC: u64 = 0x17;
+const DATA_ABORT: u64 = 0x24;
+
+/// The highest address that can be rounded up.
+const LAST_PAGE: u64 = 0u64.wrapping_sub(4096);
+
+/// Where a result has a flag: something was found.
+const FOUND: u64 = 1;
+
+/// A call that a core has made and that is not replied to.
+///
+/// RITM calls out within one function, so its trap is taken twice: on a copy of the core, with a reply that the
+/// recipient may give, to see what is handed out; and with the reply that then comes, to see what that changes.
+#[derive(Clone, Copy)]
+struct Forwarded {
+    trap: Trap,
+    /// The core's x0 at the trap, by which RITM chooses the recipient.
+    x0: u64,
+    firmware: bool,
+}
+
+impl Forwarded {
+    /// The code by which the port says what the core waits for.
+    fn wait(self) -> u64 {
+        let conduit = if class(self.trap) == HVC { 0 } else { 2 };
+        conduit + if self.firmware { 1 } else { 2 }
+    }
+}
+
+/// RITM's state, and what the port adds to it: what each core waits for.
+pub struct RitmRust {
+    pub oracle: Oracle,
+    pub map: SuspendMap,
+    pub cores: [Core; CORES],
+    forwarded: [Option<Forwarded>; CORES],
+}
+
+/// EC, ESR_EL2's bits 31:26.
+fn class(trap: Trap) -> u64 {
+    trap.esr >> 26 & 0x3F
+}
+
+impl RitmRust {
+    /// Fresh states, but for the counter.
+    pub fn fresh(counter: u64) -> Self {
+        Self {
+            oracle: Oracle::fresh(counter),
+            map: SuspendMap::new(),
+            cores: [Core::default(); CORES],
+            forwarded: [None; CORES],
+        }
+    }
+
+    /// What a core waits for, as the port's code.
+    pub fn wait(&self, core: usize) -> u64 {
+        self.forwarded[core].map_or(0, Forwarded::wait)
+    }
+
+    /// The refusal of a call that RITM cannot be asked, panics at, or answers with a wrapped sum: 10 to 16, 18 and 20.
+    pub fn outside(&mut self, call: &Call) -> Option<u64> {
+        match *call {
+            Call::Handle { read, write, .. } if read > 1 || write > 1 => Some(20),
+            Call::Save { core, .. }
+            | Call::Trap { core, .. }
+            | Call::Reply { core, .. }
+            | Call::ReadGpr { core, .. }
+            | Call::WriteGpr { core, .. }
+                if core >= CORES as u64 =>
+            {
+                Some(10)
+            }
+            Call::Save { core, .. } | Call::Trap { core, .. } if self.forwarded[core as usize].is_some() => Some(11),
+            Call::Trap { core, trap } => self.outside_trap(core as usize, trap),
+            Call::Reply { core, kind, .. } => match self.forwarded[core as usize] {
+                None => Some(14),
+                Some(call) if kind > 4 || call.firmware && !matches!(kind, 1 | 4) => Some(15),
+                Some(_) => None,
+            },
+            Call::Insert { key, .. } if self.map.places().all(|place| place.is_some_and(|(held, _)| *held != key)) => {
+                Some(16)
+            }
+            Call::AlignUp { address } if address > LAST_PAGE => Some(18),
+            _ => None,
+        }
+    }
+
+    fn outside_trap(&mut self, core: usize, trap: Trap) -> Option<u64> {
+        match class(trap) {
+            HVC | SMC => None,
+            DATA_ABORT if trap.vbar == 0 && self.injects(core, trap) => Some(13),
+            DATA_ABORT => None,
+            _ => Some(12),
+        }
+    }
+
+    /// Whether the abort is injected where there is a vector: asked of a copy of the core.
+    fn injects(&mut self, core: usize, trap: Trap) -> bool {
+        let counter = self.oracle.counter();
+        let with_vector = Trap { vbar: 1, ..trap };
+        let answer = self.oracle.trap(&mut self.cores[core].clone(), with_vector, Reply::Unhandled);
+        self.oracle.set_counter(counter);
+        answer == oracle::Answer::AbortInjected
+    }
+
+    /// Takes a call that is not outside.
+    pub fn take(&mut self, call: &Call) -> Answer {
+        match *call {
+            Call::Allow { base, size, attributes } => Answer::number(self.oracle.allow_range(base, size, attributes)),
+            Call::Handle { base, size, read, write } => {
+                Answer::number(self.oracle.handle_range(base, size, read == 1, write == 1))
+            }
+            Call::Find { ipa } => self.find(ipa),
+            Call::Save { core, ref registers } => self.save(core as usize, registers),
+            Call::Trap { core, trap } => self.trap(core as usize, trap),
+            Call::Reply { core, kind, ref values, error } => {
+                self.reply(core as usize, reply_of_kind(kind, values, error))
+            }
+            Call::ReadGpr { core, index } => match oracle::read_gpr(&self.cores[core as usize], index) {
+                Some(value) => Answer::accepted(&[value]),
+                None => Answer::number(17),
+            },
+            Call::WriteGpr { core, index, value } => {
+                let written = oracle::write_gpr(&mut self.cores[core as usize], index, value);
+                Answer::number(if written { 0 } else { 17 })
+            }
+            Call::Insert { key, entry_point, context_id } => {
+                self.map.insert(key, (entry_point, context_id));
+                Answer::number(0)
+            }
+            Call::LookUp { key } => entry(self.map.get_mut(&key).copied()),
+            Call::Remove { key } => entry(self.map.remove(&key)),
+            Call::Decode { iss, fipa, far } => decode(iss, fipa, far),
+            Call::Extend { iss, value } => match MemoryAccess::decode(iss, 0, 0, |_| Some(0)) {
+                Some(access) => Answer::accepted(&[access.extend_read_result(value)]),
+                None => Answer::number(19),
+            },
+            Call::AlignDown { address } => Answer::accepted(&[align_down_to_page(address as usize) as u64]),
+            Call::AlignUp { address } => Answer::accepted(&[align_up_to_page(address as usize) as u64]),
+        }
+    }
+
+    /// The place of the region and the offset, as the port has them; RITM's match holds the region itself.
+    fn find(&self, ipa: u64) -> Answer {
+        let found = self.oracle.find(ipa).and_then(|(base, offset)| {
+            let place = self.oracle.regions().position(|region| region[0] == base)?;
+            Some([FOUND, place as u64, offset])
+        });
+        Answer::accepted(&found.unwrap_or_default())
+    }
+
+    /// What the hardware does: RITM has no such function.
+    fn save(&mut self, core: usize, registers: &[u64; 33]) -> Answer {
+        let core = &mut self.cores[core];
+        core.x.copy_from_slice(&registers[..31]);
+        [core.elr, core.spsr] = [registers[31], registers[32]];
+        Answer::number(0)
+    }
+
+    fn trap(&mut self, at: usize, trap: Trap) -> Answer {
+        // One value: a reply that the firmware may give, and the platform too.
+        let mut core = self.cores[at];
+        let answer = self.oracle.trap(&mut core, trap, Reply::One(0));
+        let x0 = self.cores[at].x[0];
+        match answer {
+            oracle::Answer::ToFirmware(_) => self.forwarded[at] = Some(Forwarded { trap, x0, firmware: true }),
+            oracle::Answer::ToPlatform(_) => self.forwarded[at] = Some(Forwarded { trap, x0, firmware: false }),
+            _ => self.cores[at] = core,
+        }
+        trap_answer(&answer)
+    }
+
+    /// RITM's trap again, on the core as it now is and with this reply. Its x0 may have been written meanwhile, so the
+    /// one that chose the recipient is put back: every reply writes x0.
+    fn reply(&mut self, at: usize, reply: Reply) -> Answer {
+        let call = self.forwarded[at].take().expect("a reply to a core that waits for none is outside");
+        self.cores[at].x[0] = call.x0;
+        let answer = self.oracle.trap(&mut self.cores[at], call.trap, reply);
+        let firmware = matches!(answer, oracle::Answer::ToFirmware(_));
+        assert_eq!(firmware, call.firmware, "RITM forwards the same call to the same recipient");
+        Answer::number(0)
+    }
+}
+
+/// The kind and the values of a trap's answer.
+fn trap_answer(answer: &oracle::Answer) -> Answer {
+    let (kind, values) = match answer {
+        oracle::Answer::LoadHandled => (1, &[0; 18]),
+        oracle::Answer::StoreHandled => (2, &[0; 18]),
+        oracle::Answer::AbortInjected => (3, &[0; 18]),
+        oracle::Answer::ToFirmware(values) => (4, values),
+        oracle::Answer::ToPlatform(values) => (5, values),
+    };
+    let mut words = [kind; 19];
+    words[1..].copy_from_slice(values);
+    Answer::accepted(&words)
+}
+
+fn reply_of_kind(kind: u64, values: &[u64; 18], error: i32) -> Reply {
+    match kind {
+        0 => Reply::Unhandled,
+        1 => Reply::One(values[0]),
+        2 => Reply::Four([values[0], values[1], values[2], values[3]]),
+        3 => Reply::Eighteen(*values),
+        4 => Reply::Error(error),
+        _ => unreachable!("a reply of kind {kind} is outside"),
+    }
+}
+
+fn entry(found: Option<(u64, u64)>) -> Answer {
+    Answer::accepted(&found.map_or([0; 3], |(entry_point, context_id)| [FOUND, entry_point, context_id]))
+}
+
+fn decode(iss: u32, fipa: u64, far: u64) -> Answer {
+    let Some(access) = MemoryAccess::decode(iss, fipa, far, |_| Some(0)) else {
+        return Answer::number(19);
+    };
+    Answer::accepted(&[
+        access.ipa,
+        access.width.bits().into(),
+        matches!(access.kind, MemoryAccessKind::Write { .. }).into(),
+        access.register_index as u64,
+        access.sign_extend.into(),
+        access.register_width_64.into(),
+    ])
+}
