@@ -68,11 +68,14 @@ thread_local! {
     static PANIC: RefCell<String> = const { RefCell::new(String::new()) };
 }
 
-/// Keeps the message of a panic instead of printing it.
+/// Keeps the message of a panic instead of printing it; tests print it too.
 pub fn note_panics() {
     panic::set_hook(Box::new(|info| {
         let message = info.payload_as_str().unwrap_or("no message");
         let place = info.location().map_or(String::new(), |at| format!(" at {}:{}", at.file(), at.line()));
+        if cfg!(test) {
+            eprintln!("{message}{place}");
+        }
         PANIC.with_borrow_mut(|noted| *noted = format!("{message}{place}"));
     }));
 }
@@ -112,7 +115,7 @@ pub fn print(list: &List, difference: &Difference) {
                 println!("     port: {port}");
                 println!("     {}: {rust}", if asked { "RITM" } else { "due" });
             }
-            Err(_) => println!("     RITM panicks"),
+            Err(_) => println!("     RITM panics"),
         }
     }
     println!("Different: {}", difference.what);

@@ -31,15 +31,8 @@ enum Theme {
     Mixed,
 }
 
-const THEMES: [Theme; 7] = [
-    Theme::Overlaps,
-    Theme::FullTables,
-    Theme::Aborts,
-    Theme::Calls,
-    Theme::Map,
-    Theme::Stateless,
-    Theme::Mixed,
-];
+const THEMES: [Theme; 7] =
+    [Theme::Overlaps, Theme::FullTables, Theme::Aborts, Theme::Calls, Theme::Map, Theme::Stateless, Theme::Mixed];
 const THEME_WEIGHTS: [u64; 7] = [3, 3, 6, 5, 2, 1, 4];
 
 /// What is added to a list next, by the order of the weights below.
@@ -133,7 +126,17 @@ impl Generator {
         };
         let keys = std::array::from_fn(|k| if k < 4 { k as u64 } else { random.word() });
         let cores = if short { 2 } else { random.pick(&[1, 2, 8, 8]) };
-        Self { random, calls: Vec::new(), first_page, pages, handled: Vec::new(), waiting: [None; 8], keys, cores, short }
+        Self {
+            random,
+            calls: Vec::new(),
+            first_page,
+            pages,
+            handled: Vec::new(),
+            waiting: [None; 8],
+            keys,
+            cores,
+            short,
+        }
     }
 
     /// What a theme begins with.
@@ -384,7 +387,8 @@ impl Generator {
         if waiting.is_empty() && !self.random.once_in(8) {
             return self.forwarded_call();
         }
-        let core = if waiting.is_empty() || self.random.once_in(16) { self.core() } else { self.random.pick(&waiting) };
+        let core =
+            if waiting.is_empty() || self.random.once_in(16) { self.core() } else { self.random.pick(&waiting) };
         self.reply_to(core);
     }
 

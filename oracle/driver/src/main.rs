@@ -2,6 +2,7 @@
 
 mod call;
 mod compare;
+mod facts;
 mod generate;
 mod mirror;
 mod port;
@@ -28,10 +29,8 @@ fn main() -> ExitCode {
             (Ok(seed), Ok(lists)) => compare_lists(seed, lists),
             _ => usage(),
         },
-        ["record"] => {
-            print!("{}", record::text());
-            ExitCode::SUCCESS
-        }
+        ["facts"] => print_text(&facts::text()),
+        ["record"] => print_text(&record::text()),
         _ => usage(),
     }
 }
@@ -39,6 +38,11 @@ fn main() -> ExitCode {
 fn usage() -> ExitCode {
     eprintln!("{USAGE}");
     ExitCode::from(2)
+}
+
+fn print_text(text: &str) -> ExitCode {
+    print!("{text}");
+    ExitCode::SUCCESS
 }
 
 fn compare_lists(seed: u64, lists: u64) -> ExitCode {

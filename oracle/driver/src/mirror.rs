@@ -97,7 +97,8 @@ impl Mirror {
         if policy_equal && equal(&port.cores, &self.cores) && self.map_place(port).is_none() {
             return None;
         }
-        let place = counts.into_iter().chain(ranges).chain(regions).find(|k| word(&port.policy, *k) != self.policy[*k]);
+        let place =
+            counts.into_iter().chain(ranges).chain(regions).find(|k| word(&port.policy, *k) != self.policy[*k]);
         if let Some(k) = place {
             return Some(told(&policy_word(k), word(&port.policy, k), self.policy[k]));
         }

@@ -83,9 +83,7 @@ impl Port {
             Call::Insert { key, entry_point, context_id } => {
                 Answer::number(ffi::ritm_insert(map, key, entry_point, context_id))
             }
-            Call::LookUp { key } => {
-                answered::<{ ffi::ENTRY_RESULT_SIZE }, 3>(|entry| ffi::ritm_get(map, key, entry))
-            }
+            Call::LookUp { key } => answered::<{ ffi::ENTRY_RESULT_SIZE }, 3>(|entry| ffi::ritm_get(map, key, entry)),
             Call::Remove { key } => {
                 answered::<{ ffi::ENTRY_RESULT_SIZE }, 3>(|entry| ffi::ritm_remove(map, key, entry))
             }

@@ -70,12 +70,12 @@ fn record(list: &List, text: &mut String) {
             continue;
         }
         let answer = rust.take(call);
-        let mut words = answer.words()[..form.words].to_vec();
-        if let (Call::Find { ipa }, 1) = (call, words[..].first().copied().unwrap_or_default()) {
-            words[1] = ipa - words[2];
-        }
-        let number = if form.number { vec![answer.number] } else { vec![] };
-        line(text, &[vec![form.code], call.arguments(), number, words].concat());
+        let number = if form.number { &[answer.number][..] } else { &[] };
+        let words = match *call {
+            Call::Find { ipa } => &rust.oracle.find(ipa).map_or([0; 3], |(base, offset)| [1, base, offset])[..],
+            _ => &answer.words()[..form.words],
+        };
+        line(text, &[&[form.code], &call.arguments()[..], number, words].concat());
         cores.extend(call.core());
     }
     record_state(&rust, &cores, text);
@@ -103,4 +103,103 @@ fn line(text: &mut String, fields: &[u64]) {
         write!(text, "{separator}{field:x}").expect("a string takes any text");
     }
     text.push('\n');
+}
+
+#[cfg(test)]
+mod tests {
+    use super::*;
+    use crate::call::Answer;
+    use crate::port::{self, Port};
+    use reference::oracle::Trap;
+
+    fn words<const N: usize>(fields: &[u64]) -> [u64; N] {
+        fields[..N].try_into().expect("a record has its fields")
+    }
+
+    /// The call of a record, if it is one of a call.
+    fn call(fields: &[u64]) -> Option<Call> {
+        let arguments = &fields[1..];
+        Some(match (fields[0], arguments) {
+            (0x1, &[base, size, attributes, ..]) => Call::Allow { base, size, attributes },
+            (0x2, &[base, size, read, write, ..]) => Call::Handle { base, size, read, write },
+            (0x3, &[ipa, ..]) => Call::Find { ipa },
+            (0x4, &[core, ref registers @ ..]) => Call::Save { core, registers: words(registers) },
+            (0x5, &[core, esr, fipa, far, vbar, ..]) => Call::Trap { core, trap: Trap { esr, fipa, far, vbar } },
+            (0x6, &[core, kind, ref values @ ..]) => {
+                Call::Reply { core, kind, values: words(values), error: (values[18] as u32).cast_signed() }
+            }
+            (0x7, &[core, index, value, ..]) => Call::WriteGpr { core, index, value },
+            (0x8, &[key, entry_point, context_id, ..]) => Call::Insert { key, entry_point, context_id },
+            (0x9, &[key, ..]) => Call::LookUp { key },
+            (0xA, &[key, ..]) => Call::Remove { key },
+            (0xB, &[iss, fipa, far, ..]) => Call::Decode { iss: iss as u32, fipa, far },
+            (0xC, &[iss, value, ..]) => Call::Extend { iss: iss as u32, value },
+            (0xD, &[address, ..]) => Call::AlignDown { address },
+            (0xE, &[address, ..]) => Call::AlignUp { address },
+            _ => return None,
+        })
+    }
+
+    /// What the port answers to a record's call, in the form of the record.
+    fn answer(port: &mut Port, call: &Call) -> (Answer, Vec<u64>) {
+        let form = form(call).expect("a recorded call has a form");
+        let answer = port.take(call);
+        let mut results = answer.words()[..form.words].to_vec();
+        if let (Call::Find { .. }, 1) = (call, answer.words()[0]) {
+            let [base] = port::words(&port.policy[8 * (129 + 5 * results[1] as usize)..]);
+            results[1] = base;
+        }
+        if form.number {
+            results.insert(0, answer.number);
+        }
+        (answer, results)
+    }
+
+    /// What the port holds, in the form of a state's record.
+    fn state(port: &Port, fields: &[u64]) -> Vec<u64> {
+        let policy: [u64; 210] = port::words(&port.policy);
+        let cores: [u64; 305] = port::words(&port.cores);
+        let place = fields[1] as usize;
+        match fields[0] {
+            CORE_STATE => cores[38 * place..][..37].to_vec(),
+            COUNTER => vec![cores[304]],
+            COUNTS => vec![policy[128], policy[209]],
+            RANGE => policy[4 * place..][..4].to_vec(),
+            REGION => policy[129 + 5 * place..][..5].to_vec(),
+            code => panic!("no record has the code {code:#x}"),
+        }
+    }
+
+    fn fields(line: &str) -> Vec<u64> {
+        let fields: Vec<u64> =
+            line.split(' ').map(|field| u64::from_str_radix(field, 16).expect("a field is a number")).collect();
+        let mut again = String::new();
+        super::line(&mut again, &fields);
+        assert_eq!(again.trim_end(), line, "a number has no prefix, no leading zeros and lower-case digits");
+        fields
+    }
+
+    /// The text is read back and the port, asked the same, answers the same; every answer of RITM's is there.
+    #[test]
+    fn the_port_answers_the_records_alike() {
+        let text = text();
+        assert!(text.is_ascii() && text.ends_with('\n') && text.len() < 600_000);
+        let mut port = Port::fresh(0);
+        let mut met = BTreeSet::new();
+        for line in text.lines() {
+            let fields = fields(line);
+            if fields[0] == FRESH {
+                port = Port::fresh(fields[1]);
+            } else if let Some(call) = call(&fields) {
+                let (answer, results) = answer(&mut port, &call);
+                assert_eq!(fields[1 + call.arguments().len()..], results, "{call}");
+                met.insert((answer.number, if let Call::Trap { .. } = call { answer.words()[0] } else { 0 }));
+            } else {
+                let results = state(&port, &fields);
+                assert_eq!(fields[fields.len() - results.len()..], results);
+            }
+        }
+        let numbers = [0, 1, 2, 3, 4, 5, 6, 7, 8, 9, 17, 19].map(|number| (number, 0));
+        assert_eq!(met, numbers.into_iter().chain((1..=5).map(|kind| (0, kind))).collect());
+    }
 }

@@ -1,0 +1,256 @@
+//! What RITM does where the port refuses with 10 to 16, 18 or 20, and where a sum wraps: each asked once, as a table.
+
+use crate::call::{Answer, Call};
+use crate::compare;
+use crate::mirror;
+use crate::port::{self, Port};
+use crate::ritm_rust::RitmRust;
+use reference::oracle::Trap;
+use std::collections::BTreeMap;
+use std::fmt::Write;
+use std::panic::{self, AssertUnwindSafe};
+
+const HVC: u64 = 0x16 << 26;
+const SMC: u64 = 0x17 << 26;
+const DATA_ABORT: u64 = 0x24 << 26;
+/// ISS of a 64-bit load into x5, SF set; the one of 32 bits; into x31; with SF clear; a 64-bit store from x5.
+const LOAD: u64 = 0x1C5_8000;
+const LOAD_32: u64 = 0x185_8000;
+const LOAD_TO_31: u64 = 0x1DF_8000;
+const LOAD_SF_CLEAR: u64 = 0x1C5_0000;
+const STORE: u64 = 0x1C5_8040;
+const PAGE: u64 = 0x0F00_0000;
+const COUNTER_WORD: u64 = PAGE + 16;
+const VECTOR: u64 = 0x8_0000;
+const END: u64 = 0;
+
+/// A call after some others, on fresh states.
+#[derive(Clone)]
+struct Case {
+    counter: u64,
+    before: Vec<Call>,
+    call: Call,
+}
+
+/// What there is to be seen after a call: its answer, the first core and the counter.
+struct View {
+    answer: Answer,
+    core: [u64; 37],
+    counter: u64,
+}
+
+impl View {
+    fn elr(&self) -> u64 {
+        self.core[31]
+    }
+}
+
+impl Case {
+    fn new(before: &[Call], call: Call) -> Self {
+        Self { counter: 0, before: before.to_vec(), call }
+    }
+
+    /// The view of RITM's Rust, or the first line of its panic.
+    fn on_rust(&self) -> Result<View, String> {
+        let run = AssertUnwindSafe(|| {
+            let mut rust = RitmRust::fresh(self.counter);
+            self.before.iter().for_each(|call| assert_eq!(rust.take(call).number, 0));
+            let answer = rust.take(&self.call);
+            View { answer, core: mirror::core_words(&rust.cores[0]), counter: rust.oracle.counter() }
+        });
+        panic::catch_unwind(run).map_err(|_| first_line(&compare::noted_panic()))
+    }
+
+    fn on_port(&self) -> View {
+        let mut port = Port::fresh(self.counter);
+        self.before.iter().for_each(|call| assert_eq!(port.take(call).number, 0));
+        let answer = port.take(&self.call);
+        let [counter] = port::words(&port.cores[8 * 304..]);
+        View { answer, core: port::words(&port.cores), counter }
+    }
+}
+
+/// The first line of a message, up to the values that it shows.
+fn first_line(message: &str) -> String {
+    let line = message.lines().next().unwrap_or_default();
+    let end = [", register_state=", " at "].iter().filter_map(|mark| line.find(mark)).min().unwrap_or(line.len());
+    format!("panics: {}", &line[..end])
+}
+
+fn trap(esr: u64, ipa: u64, vbar: u64) -> Call {
+    Call::Trap { core: 0, trap: Trap { esr, fipa: ipa / 4096, far: ipa % 4096, vbar } }
+}
+
+fn region(read: u64, write: u64) -> Call {
+    Call::Handle { base: PAGE, size: 4096, read, write }
+}
+
+fn saved(elr: u64) -> Call {
+    let mut registers = [0; 33];
+    registers[31] = elr;
+    Call::Save { core: 0, registers }
+}
+
+fn reply(kind: u64) -> Call {
+    Call::Reply { core: 0, kind, values: [7; 18], error: 0 }
+}
+
+/// The table, with one line for each fact.
+pub fn text() -> String {
+    let mut table = Table::default();
+    table.title("Calls that the port refuses and RITM cannot be asked");
+    not_asked(&mut table);
+    table.title("Calls that the port refuses and RITM panics at or answers with a wrapped sum");
+    refused(&mut table);
+    table.title("Calls that both answer: sums that wrap, and what counts");
+    wrapped(&mut table);
+    table.text
+}
+
+#[derive(Default)]
+struct Table {
+    text: String,
+}
+
+impl Table {
+    fn title(&mut self, title: &str) {
+        let gap = if self.text.is_empty() { "" } else { "\n" };
+        writeln!(self.text, "{gap}{title}").expect("a string takes any text");
+    }
+
+    fn row(&mut self, asked: &str, rust: &str, port: &str) {
+        writeln!(self.text, "  {asked}\n    RITM: {rust}\n    port: {port}").expect("a string takes any text");
+    }
+
+    /// A case that both sides take, as seen by `show`.
+    fn both(&mut self, asked: &str, case: &Case, show: impl Fn(&View) -> String) {
+        let rust = case.on_rust().map_or_else(|panic| panic, |view| show(&view));
+        self.row(asked, &rust, &show(&case.on_port()));
+    }
+}
+
+fn number(view: &View) -> String {
+    view.answer.to_string()
+}
+
+/// The value of an accepted call that has one.
+fn value(view: &View) -> String {
+    match view.answer.number {
+        0 => format!("accepted, {:#x}", view.answer.words()[0]),
+        refusal => refusal.to_string(),
+    }
+}
+
+fn not_asked(table: &mut Table) {
+    let hvc = trap(HVC, 0, 0);
+    let firmware = [Call::WriteGpr { core: 0, index: 0, value: 0x8400_0000 }, hvc.clone()];
+    let no_number = "one core's registers are at hand; cores have no number";
+    let no_wait = "a call is answered within its trap; no core waits";
+    let no_kind = "a reply is an HvcResult, which has no other kind";
+    let no_half = "a half is an optional function";
+    let rows: [(&str, &[Call], Call, &str); 7] = [
+        ("save, core 8", &[], Call::Save { core: 8, registers: [0; 33] }, no_number),
+        ("write_gpr, core 8", &[], Call::WriteGpr { core: 8, index: 0, value: 0 }, no_number),
+        ("a trap after an HVC, with no reply between", &[hvc.clone()], hvc.clone(), no_wait),
+        ("a reply on a fresh core", &[], reply(1), no_wait),
+        ("a reply of kind 5", &[hvc], reply(5), no_kind),
+        ("a reply of kind 2 for the firmware", &firmware, reply(2), "try_handle_psci gives one value or an error"),
+        ("handle, read half 2", &[], region(2, 0), no_half),
+    ];
+    for (asked, before, call, why) in rows {
+        table.row(asked, why, &number(&Case::new(before, call).on_port()));
+    }
+}
+
+fn refused(table: &mut Table) {
+    classes(table);
+    let aborts: [(&str, &[Call], u64, u64); 5] = [
+        ("no region", &[], LOAD, PAGE),
+        ("ISV clear", &[region(1, 1)], 0, PAGE),
+        ("absent read half", &[region(0, 1)], LOAD, PAGE),
+        ("absent write half", &[region(1, 0)], STORE, PAGE + 8),
+        ("a fault of the page", &[region(1, 1)], LOAD_32, COUNTER_WORD),
+    ];
+    for (why, before, iss, ipa) in aborts {
+        let case = Case::new(before, trap(DATA_ABORT | iss, ipa, 0));
+        table.both(&format!("a data abort to be injected, {why}, VBAR 0"), &case, number);
+    }
+    let entries: Vec<Call> = (0..8).map(|key| Call::Insert { key, entry_point: 1, context_id: 2 }).collect();
+    let ninth = Case::new(&entries, Call::Insert { key: 8, entry_point: 1, context_id: 2 });
+    table.both("insert, a ninth key", &ninth, number);
+    for below in [4095, 1] {
+        let case = Case::new(&[], Call::AlignUp { address: END.wrapping_sub(below) });
+        table.both(&format!("align up, 2^64 - {below}"), &case, value);
+    }
+}
+
+/// Every exception class but the three, counted by what comes of it.
+fn classes(table: &mut Table) {
+    let mut rust = BTreeMap::new();
+    let mut port = BTreeMap::new();
+    for class in (0..64).filter(|class| ![0x16, 0x17, 0x24].contains(class)) {
+        let case = Case::new(&[], trap(class << 26, 0, VECTOR));
+        let answer = case.on_rust().map_or_else(|panic| panic, |view| number(&view));
+        let (esr, ec) = (format!("esr={:#x}", class << 26), format!("ec={class:#x}"));
+        *rust.entry(answer.replace(&esr, "esr=ESR").replace(&ec, "ec=EC")).or_insert(0) += 1;
+        *port.entry(number(&case.on_port())).or_insert(0) += 1;
+    }
+    let told = |counts: BTreeMap<String, u64>| {
+        let each: Vec<String> = counts.iter().map(|(answer, times)| format!("{times} times {answer}")).collect();
+        each.join("; ")
+    };
+    table.row("a trap of each class but 0x16, 0x17, 0x24", &told(rust), &told(port));
+}
+
+fn wrapped(table: &mut Table) {
+    let elr = |view: &View| format!("ELR {:#x}", view.elr());
+    for below in [4, 1] {
+        let at = END.wrapping_sub(below);
+        let smc = [saved(at), trap(SMC, 0, 0)];
+        table.both(&format!("SMC and reply, ELR 2^64 - {below}"), &Case::new(&smc, reply(1)), elr);
+        let hvc = [saved(at), trap(HVC, 0, 0)];
+        table.both(&format!("HVC and reply, ELR 2^64 - {below}"), &Case::new(&hvc, reply(1)), elr);
+        let load = Case::new(&[region(1, 1), saved(at)], trap(DATA_ABORT | LOAD, PAGE, VECTOR));
+        table.both(&format!("load, ELR 2^64 - {below}"), &load, elr);
+    }
+    for below in [0x200, 1] {
+        let case = Case::new(&[], trap(DATA_ABORT | LOAD, PAGE, END.wrapping_sub(below)));
+        table.both(&format!("abort, VBAR 2^64 - {below:#x}"), &case, elr);
+    }
+    counters(table);
+    for below in [4097, 4096] {
+        let case = Case::new(&[], Call::AlignUp { address: END.wrapping_sub(below) });
+        table.both(&format!("align up, 2^64 - {below}"), &case, value);
+    }
+    for below in [8192, 4096] {
+        let case = Case::new(&[], Call::Allow { base: END.wrapping_sub(below), size: 4096, attributes: 0 });
+        table.both(&format!("allow, 4096 bytes at 2^64 - {below}"), &case, number);
+    }
+    let fipa = Case::new(&[], Call::Decode { iss: LOAD as u32, fipa: 1 << 52 | 0xF000, far: 16 });
+    table.both("decode, FIPA 2^52 + 0xf000, FAR 0x10: the IPA", &fipa, value);
+}
+
+/// Loads of the counter word.
+fn counters(table: &mut Table) {
+    let show =
+        |view: &View| format!("kind {}, x5 {:#x}, counter {:#x}", view.answer.words()[0], view.core[5], view.counter);
+    let rows = [
+        ("counter 2^64 - 1, its word loaded into x5", u64::MAX, LOAD),
+        ("counter 2^64 - 1, its word loaded into x31", u64::MAX, LOAD_TO_31),
+        ("counter 2^64 - 1, its word loaded into x5 with SF clear", u64::MAX, LOAD_SF_CLEAR),
+        ("counter 3, 32 bits of its word loaded into x5", 3, LOAD_32),
+    ];
+    for (asked, counter, iss) in rows {
+        let call = trap(DATA_ABORT | iss, COUNTER_WORD, VECTOR);
+        table.both(asked, &Case { counter, ..Case::new(&[region(1, 1)], call) }, show);
+    }
+}
+
+#[cfg(test)]
+mod tests {
+    #[test]
+    fn the_facts_are_as_recorded() {
+        crate::compare::note_panics();
+        assert_eq!(super::text(), include_str!("../../facts.txt"));
+    }
+}
