@@ -9,6 +9,7 @@ use reference::oracle::Trap;
 use std::collections::BTreeMap;
 use std::fmt::Write;
 use std::panic::{self, AssertUnwindSafe};
+use std::slice;
 
 const HVC: u64 = 0x16 << 26;
 const SMC: u64 = 0x17 << 26;
@@ -151,9 +152,9 @@ fn not_asked(table: &mut Table) {
     let rows: [(&str, &[Call], Call, &str); 7] = [
         ("save, core 8", &[], Call::Save { core: 8, registers: [0; 33] }, no_number),
         ("write_gpr, core 8", &[], Call::WriteGpr { core: 8, index: 0, value: 0 }, no_number),
-        ("a trap after an HVC, with no reply between", &[hvc.clone()], hvc.clone(), no_wait),
+        ("a trap after an HVC, with no reply between", slice::from_ref(&hvc), hvc.clone(), no_wait),
         ("a reply on a fresh core", &[], reply(1), no_wait),
-        ("a reply of kind 5", &[hvc], reply(5), no_kind),
+        ("a reply of kind 5", slice::from_ref(&hvc), reply(5), no_kind),
         ("a reply of kind 2 for the firmware", &firmware, reply(2), "try_handle_psci gives one value or an error"),
         ("handle, read half 2", &[], region(2, 0), no_half),
     ];

@@ -277,6 +277,10 @@ impl Generator {
         for register in &mut registers {
             *register = self.word();
         }
+        // ELR where an instruction's length takes it past 2^64.
+        if self.random.once_in(4) {
+            registers[31] = 0u64.wrapping_sub(self.random.below(6));
+        }
         self.calls.push(Call::Save { core, registers });
     }
 
@@ -322,8 +326,8 @@ impl Generator {
         let beyond_page = if self.random.once_in(2) { self.random.next() << 12 } else { 0 };
         let trap = Trap {
             esr: self.esr(0x24, iss),
-            fipa: ipa / PAGE | above,
-            far: ipa % PAGE | beyond_page,
+            fipa: (ipa / PAGE) | above,
+            far: (ipa % PAGE) | beyond_page,
             vbar: self.vbar(),
         };
         self.calls.push(Call::Trap { core, trap });

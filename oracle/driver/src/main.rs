@@ -45,35 +45,36 @@ fn print_text(text: &str) -> ExitCode {
     ExitCode::SUCCESS
 }
 
+/// Both sides take lists until they differ; prints how often each answer was met, and the first difference.
 fn compare_lists(seed: u64, lists: u64) -> ExitCode {
     let start = Instant::now();
     let mut tally = Tally::default();
-    for number in 0..lists {
-        let list = generate::list(seed, number);
-        let difference = compare::run(&list, &mut tally);
+    let mut different = None;
+    while tally.lists < lists && different.is_none() {
+        let list = generate::list(seed, tally.lists);
+        different = compare::run(&list, &mut tally).map(|difference| (list, difference));
         tally.lists += 1;
-        if let Some(difference) = difference {
-            return report(seed, number, list, &difference);
-        }
     }
     let seconds = start.elapsed().as_secs_f64();
+    let (lists, calls) = (tally.lists, tally.calls);
     println!("{tally}");
     println!(
-        "Seed {seed}: {} lists, {} calls, no difference, {seconds:.1} s, {:.2} million calls a second.",
-        tally.lists,
-        tally.calls,
-        tally.calls as f64 / seconds / 1e6
+        "Seed {seed}: {lists} lists, {calls} calls, {seconds:.1} s, {:.2} million calls a second.",
+        calls as f64 / seconds / 1e6
     );
-    ExitCode::SUCCESS
+    match different {
+        None => print_text("No difference.\n"),
+        Some((list, difference)) => report(lists, list, &difference),
+    }
 }
 
 /// Prints the list of the first difference, cut down to what shows one.
-fn report(seed: u64, number: u64, mut list: List, difference: &Difference) -> ExitCode {
+fn report(number: u64, mut list: List, difference: &Difference) -> ExitCode {
     list.calls.truncate(difference.at + 1);
     let run = |list: &List| compare::run(list, &mut Tally::default());
     let short = shrink::shrink(&list, |list| run(list).is_some());
     let difference = run(&short).expect("a list that was cut down shows a difference");
-    println!("Difference in list {} of seed {seed}; {} of its calls show one:", number + 1, short.calls.len());
+    println!("Difference in list {number}; {} of its calls show one:", short.calls.len());
     compare::print(&short, &difference);
     ExitCode::FAILURE
 }

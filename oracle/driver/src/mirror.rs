@@ -4,6 +4,7 @@ use crate::call::Call;
 use crate::port::{self, Port};
 use crate::ritm_rust::{CORES, RitmRust};
 use reference::oracle::Core;
+use std::ops::Range;
 
 /// Words of the port's records, by their order in `include/ritm.h`.
 const RANGE: [&str; 4] = ["base", "size", "end", "attributes"];
@@ -88,24 +89,14 @@ impl Mirror {
     pub fn difference(&self, port: &Port) -> Option<String> {
         let ranges = 0..self.policy[RANGE_COUNT] as usize * RANGE.len();
         let regions = REGIONS..REGIONS + self.policy[REGION_COUNT] as usize * REGION.len();
-        let counts = [RANGE_COUNT, REGION_COUNT];
-        let held = ranges.end == 0 && regions.is_empty();
-        let policy_equal = counts.iter().all(|count| word(&port.policy, *count) == self.policy[*count])
-            && (held
-                || equal(&port.policy[..8 * ranges.end], &self.policy[ranges.clone()])
-                    && equal(&port.policy[8 * regions.start..8 * regions.end], &self.policy[regions.clone()]));
-        if policy_equal && equal(&port.cores, &self.cores) && self.map_place(port).is_none() {
-            return None;
-        }
-        let place =
-            counts.into_iter().chain(ranges).chain(regions).find(|k| word(&port.policy, *k) != self.policy[*k]);
-        if let Some(k) = place {
+        let held = [RANGE_COUNT..RANGE_COUNT + 1, REGION_COUNT..REGION_COUNT + 1, ranges, regions];
+        if let Some(k) = held.into_iter().find_map(|places| differing(&port.policy, &self.policy, places)) {
             return Some(told(&policy_word(k), word(&port.policy, k), self.policy[k]));
         }
-        if let Some(k) = (0..=COUNTER).find(|k| word(&port.cores, *k) != self.cores[*k]) {
+        if let Some(k) = differing(&port.cores, &self.cores, 0..COUNTER + 1) {
             return Some(told(&cores_word(k), word(&port.cores, k), self.cores[k]));
         }
-        let k = self.map_place(port).expect("the states differ in the policy, the cores or the map");
+        let k = self.map_place(port)?;
         let name = format!("map place {} {}", k / ENTRY.len(), ENTRY[k % ENTRY.len()]);
         Some(told(&name, word(&port.map, k), self.map[k]))
     }
@@ -123,9 +114,12 @@ fn word(buffer: &[u8], k: usize) -> u64 {
     port::words::<1>(&buffer[8 * k..])[0]
 }
 
-fn equal(buffer: &[u8], words: &[u64]) -> bool {
+/// The first of these places at which a buffer does not hold the word. Most hold all, which is told without branches.
+fn differing(buffer: &[u8], words: &[u64], mut places: Range<usize>) -> Option<usize> {
     let (chunks, _) = buffer.as_chunks::<8>();
-    chunks.iter().zip(words).fold(0, |differing, (chunk, word)| differing | u64::from_le_bytes(*chunk) ^ word) == 0
+    let pairs = chunks[places.clone()].iter().zip(&words[places.clone()]);
+    let bits = pairs.fold(0, |bits, (chunk, word)| bits | (u64::from_le_bytes(*chunk) ^ word));
+    if bits == 0 { None } else { places.find(|k| u64::from_le_bytes(chunks[*k]) != words[*k]) }
 }
 
 fn told(name: &str, port: u64, rust: u64) -> String {

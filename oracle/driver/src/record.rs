@@ -108,7 +108,7 @@ fn line(text: &mut String, fields: &[u64]) {
 #[cfg(test)]
 mod tests {
     use super::*;
-    use crate::call::Answer;
+    use crate::call::{Answer, NAMES};
     use crate::port::{self, Port};
     use reference::oracle::Trap;
 
@@ -179,6 +179,16 @@ mod tests {
         fields
     }
 
+    /// A trap by its kind, a search by whether it found something, any other call by its number.
+    fn kind_of_answer(call: &Call, answer: &Answer) -> (&'static str, u64) {
+        match call {
+            Call::Trap { .. } | Call::Find { .. } | Call::LookUp { .. } | Call::Remove { .. } => {
+                (NAMES[call.kind()], answer.words()[0])
+            }
+            _ => ("", answer.number),
+        }
+    }
+
     /// The text is read back and the port, asked the same, answers the same; every answer of RITM's is there.
     #[test]
     fn the_port_answers_the_records_alike() {
@@ -193,13 +203,15 @@ mod tests {
             } else if let Some(call) = call(&fields) {
                 let (answer, results) = answer(&mut port, &call);
                 assert_eq!(fields[1 + call.arguments().len()..], results, "{call}");
-                met.insert((answer.number, if let Call::Trap { .. } = call { answer.words()[0] } else { 0 }));
+                met.insert(kind_of_answer(&call, &answer));
             } else {
                 let results = state(&port, &fields);
                 assert_eq!(fields[fields.len() - results.len()..], results);
             }
         }
-        let numbers = [0, 1, 2, 3, 4, 5, 6, 7, 8, 9, 17, 19].map(|number| (number, 0));
-        assert_eq!(met, numbers.into_iter().chain((1..=5).map(|kind| (0, kind))).collect());
+        let numbers = [0, 1, 2, 3, 4, 5, 6, 7, 8, 9, 17, 19].map(|number| ("", number));
+        let traps = (1..=5).map(|kind| ("trap", kind));
+        let found = ["find", "look-up", "remove"].into_iter().flat_map(|name| [(name, 0), (name, 1)]);
+        assert_eq!(met, numbers.into_iter().chain(traps).chain(found).collect());
     }
 }

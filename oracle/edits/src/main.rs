@@ -88,7 +88,8 @@ impl Copy {
         let output = Command::new(&driver).args(["compare", SEED, &lists.to_string()]).output();
         let output = output.map_err(|error| format!("{}: {error}", driver.display()))?;
         let text = String::from_utf8_lossy(&output.stdout);
-        match (output.status.code(), text.strip_prefix(REPORT)) {
+        let report = text.lines().find_map(|line| line.strip_prefix(REPORT));
+        match (output.status.code(), report) {
             (Some(0), None) => Ok(None),
             (Some(1), Some(report)) => {
                 let number: String = report.chars().take_while(char::is_ascii_digit).collect();

@@ -7,7 +7,7 @@
 //! register banks, on which [`hypervisor::handle_sync_lower`] and the register accesses run with no layout work, the
 //! system registers are set through [`arm_sysregs`], and [`hypervisor::set_policy`] puts a policy in force. [`oracle`]
 //! is the interface for comparing: each call with all that it answers.
-#![allow(dead_code, unused_doc_comments)]
+#![allow(dead_code, unused_doc_comments, clippy::new_without_default)]
 
 extern crate alloc;
 // `core::arch::naked_asm!` becomes an undefined instruction; all else is `core`.
