@@ -131,3 +131,35 @@ static SHARED_HEAP: spin::mutex::SpinMutex<[u8; <platform::PlatformImpl as platf
 fn shared_alloc(_layout: std::alloc::Layout) -> &'static mut [u8] {
     unimplemented!("no devicetree is written")
 }
+
+#[cfg(test)]
+mod tests {
+    use crate::aarch64_rt::RegisterState;
+    use crate::arm_sysregs::{EsrEl2, FarEl2, HpfarEl2, set_esr_el2, set_far_el2, set_hpfar_el2};
+    use crate::exceptions::GuestRegisters;
+    use crate::hypervisor;
+    use crate::platform::qemu;
+    use crate::stage2::{MemoryAccessHandler, Stage2Builder};
+
+    /// RITM's functions with nothing between, as a benchmark calls them.
+    #[test]
+    fn traps_are_taken_on_the_banks() {
+        let mut builder = Stage2Builder::new();
+        let handler = MemoryAccessHandler::read_write(qemu::READ, qemu::WRITE);
+        assert_eq!(builder.handle_range(0x0F00_0000, 4096, handler), Ok(()));
+        // SAFETY: the trap below comes after, and no other test of this crate takes one.
+        unsafe { hypervisor::set_policy(&builder) };
+        let mut registers = GuestRegisters::new(RegisterState::default(), [0; 10]);
+        set_esr_el2(EsrEl2::from_bits_retain(0x93D9_8000));
+        set_hpfar_el2(HpfarEl2::from_bits_retain(0xF000));
+        set_far_el2(FarEl2::from_bits_retain(0));
+        hypervisor::handle_sync_lower(registers.view());
+        assert_eq!(registers.nonvolatile()[25 - 19], 0xFEED_FACE_CAFE_BEEF);
+        assert_eq!(registers.volatile.elr, 4);
+
+        registers.volatile.registers[0] = 0xFF00_0000;
+        set_esr_el2(EsrEl2::from_bits_retain(0x16 << 26));
+        hypervisor::handle_sync_lower(registers.view());
+        assert_eq!(registers.volatile.registers[0], 0x1234_5678_9ABC_DEF0);
+    }
+}

@@ -14,6 +14,7 @@ use aarch64_rt::{InitialPagetable, RegisterState};
 use arm_sysregs as sys;
 use dtoolkit::fdt::Fdt;
 use std::cell::Cell;
+use std::sync::atomic::{AtomicBool, Ordering};
 use std::sync::{Mutex, MutexGuard, PoisonError};
 
 /// A core's registers, and the EL1 registers that an injected abort writes.
@@ -88,7 +89,7 @@ fn noted_write(access: MemoryWriteAccess) -> MemoryWriteResult {
     result
 }
 
-/// The platform: Qemu's, but that calls are noted and answered with what was set.
+/// The platform: Qemu's, but that while an [`Oracle`] is held calls are noted and answered with what was set.
 pub struct PlatformImpl;
 
 impl PlatformImpl {
@@ -123,6 +124,9 @@ impl Platform for PlatformImpl {
     }
 
     fn handle_hvc(function_id: u64, args: &[u64]) -> HvcResult {
+        if !HELD.load(Ordering::Relaxed) {
+            return Qemu::handle_hvc(function_id, args);
+        }
         let mut registers = [0; 18];
         registers[0] = function_id;
         registers[1..].copy_from_slice(args);
@@ -164,11 +168,20 @@ pub struct Oracle {
 }
 
 static ALONE: Mutex<()> = Mutex::new(());
+/// Whether there is an `Oracle`.
+static HELD: AtomicBool = AtomicBool::new(false);
+
+impl Drop for Oracle {
+    fn drop(&mut self) {
+        HELD.store(false, Ordering::Relaxed);
+    }
+}
 
 impl Oracle {
     /// No range, no region, and this counter.
     pub fn fresh(counter: u64) -> Self {
         let alone = ALONE.lock().unwrap_or_else(PoisonError::into_inner);
+        HELD.store(true, Ordering::Relaxed);
         let oracle = Self { builder: Stage2Builder::new(), _alone: alone };
         oracle.set_counter(counter);
         oracle.put_in_force();
