@@ -96,15 +96,26 @@ fn reply(kind: u64) -> Call {
     Call::Reply { core: 0, kind, values: [7; 18], error: 0 }
 }
 
-/// The table, with one line for each fact.
+/// The table of all facts.
 pub fn text() -> String {
     let mut table = Table::default();
     table.title("Calls that the port refuses and RITM cannot be asked");
     not_asked(&mut table);
     table.title("Calls that the port refuses and RITM panics at or answers with a wrapped sum");
     refused(&mut table);
+    above_the_last_page(&mut table);
     table.title("Calls that both answer: sums that wrap, and what counts");
-    wrapped(&mut table);
+    sums(&mut table);
+    limits(&mut table);
+    table.text
+}
+
+/// The table of the sums alone, at which RITM built with overflow checks panics.
+pub fn sums_text() -> String {
+    let mut table = Table::default();
+    table.title("Sums that wrap");
+    above_the_last_page(&mut table);
+    sums(&mut table);
     table.text
 }
 
@@ -179,6 +190,9 @@ fn refused(table: &mut Table) {
     let entries: Vec<Call> = (0..8).map(|key| Call::Insert { key, entry_point: 1, context_id: 2 }).collect();
     let ninth = Case::new(&entries, Call::Insert { key: 8, entry_point: 1, context_id: 2 });
     table.both("insert, a ninth key", &ninth, number);
+}
+
+fn above_the_last_page(table: &mut Table) {
     for below in [4095, 1] {
         let case = Case::new(&[], Call::AlignUp { address: END.wrapping_sub(below) });
         table.both(&format!("align up, 2^64 - {below}"), &case, value);
@@ -203,7 +217,7 @@ fn classes(table: &mut Table) {
     table.row("a trap of each class but 0x16, 0x17, 0x24", &told(rust), &told(port));
 }
 
-fn wrapped(table: &mut Table) {
+fn sums(table: &mut Table) {
     let elr = |view: &View| format!("ELR {:#x}", view.elr());
     for below in [4, 1] {
         let at = END.wrapping_sub(below);
@@ -219,6 +233,10 @@ fn wrapped(table: &mut Table) {
         table.both(&format!("abort, VBAR 2^64 - {below:#x}"), &case, elr);
     }
     counters(table);
+}
+
+/// The last address, range and page number that do not wrap, and the first that does.
+fn limits(table: &mut Table) {
     for below in [4097, 4096] {
         let case = Case::new(&[], Call::AlignUp { address: END.wrapping_sub(below) });
         table.both(&format!("align up, 2^64 - {below}"), &case, value);

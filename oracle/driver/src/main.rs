@@ -2,6 +2,8 @@
 
 mod call;
 mod compare;
+#[cfg(test)]
+mod edges;
 mod facts;
 mod generate;
 mod mirror;
@@ -18,7 +20,7 @@ use std::process::ExitCode;
 use std::time::Instant;
 use tally::Tally;
 
-const USAGE: &str = "oracle compare SEED LISTS | oracle facts | oracle record";
+const USAGE: &str = "oracle compare SEED LISTS | oracle facts | oracle sums | oracle record";
 
 fn main() -> ExitCode {
     let arguments: Vec<String> = std::env::args().skip(1).collect();
@@ -30,6 +32,7 @@ fn main() -> ExitCode {
             _ => usage(),
         },
         ["facts"] => print_text(&facts::text()),
+        ["sums"] => print_text(&facts::sums_text()),
         ["record"] => print_text(&record::text()),
         _ => usage(),
     }

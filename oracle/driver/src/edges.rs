@@ -1,0 +1,114 @@
+//! The edges that lists must meet, counted where RITM's Rust answers.
+
+use crate::call::Call;
+use crate::generate;
+use crate::ritm_rust::RitmRust;
+use reference::oracle::{Core, Trap};
+use std::collections::BTreeSet;
+
+const SEED: u64 = 1;
+const LISTS: u64 = 2000;
+
+/// What the tests look for.
+#[derive(Clone, Copy, Debug, Eq, Ord, PartialEq, PartialOrd)]
+enum Edge {
+    /// A trap of this class, refused or not.
+    Class(u64),
+    /// A data abort with this SAS, SSE, SF and WnR at an address that a region has.
+    Access(u64, u64, u64, u64),
+    /// An access of this kind with this register.
+    Register(u64, u64),
+    /// ELR wrapped at this kind of trap; at 0 with the reply to an SMC.
+    ElrWraps(u64),
+    VbarWraps,
+    CounterWraps,
+    /// A call of this class with x0 by the limits of the firmware's calls.
+    Function(u64, u64),
+    /// So many allowed ranges or regions.
+    Ranges(usize),
+    Regions(usize),
+    /// A range that ends at the last page boundary, or would end at 2^64.
+    LastPage(u64),
+}
+
+/// By the limits of the firmware's calls: below the first, the first, the last, above the last.
+fn limits() -> impl Iterator<Item = u64> {
+    [0x8400_0000u64, 0xC400_0000].into_iter().flat_map(|first| [first - 1, first, first + 0x1F, first + 0x20])
+}
+
+fn expected() -> BTreeSet<Edge> {
+    let two = [0, 1];
+    let mut edges: BTreeSet<Edge> = (0..64).map(Edge::Class).collect();
+    for sas in 0..4 {
+        edges.extend(
+            two.iter().flat_map(|sse| two.map(|sf| [0, 1].map(|wnr| Edge::Access(sas, *sse, sf, wnr)))).flatten(),
+        );
+    }
+    edges.extend([29, 30, 31].into_iter().flat_map(|rt| [Edge::Register(1, rt), Edge::Register(3, rt)]));
+    edges.extend([Edge::Register(2, 29), Edge::Register(2, 30)]);
+    edges.extend([0, 1, 2].map(Edge::ElrWraps));
+    edges.extend([Edge::VbarWraps, Edge::CounterWraps, Edge::Ranges(32), Edge::Regions(16)]);
+    edges.extend([0x16, 0x17].into_iter().flat_map(|class| limits().map(move |x0| Edge::Function(class, x0))));
+    edges.extend([Edge::LastPage(0), Edge::LastPage(4)]);
+    edges
+}
+
+/// Adds the edges of a trap: `kind` is 0 where it was refused.
+fn of_trap(met: &mut BTreeSet<Edge>, trap: Trap, kind: u64, before: &Core, after: &Core, found: bool) {
+    let class = trap.esr >> 26 & 0x3F;
+    met.insert(Edge::Class(class));
+    if class == 0x24 && kind != 0 {
+        let bit = |place: u64| trap.esr >> place & 1;
+        if found && bit(24) == 1 {
+            met.insert(Edge::Access(trap.esr >> 22 & 3, bit(21), bit(15), bit(6)));
+        }
+        met.insert(Edge::Register(kind, trap.esr >> 16 & 31));
+    }
+    if matches!(kind, 1 | 2) && after.elr < before.elr {
+        met.insert(Edge::ElrWraps(kind));
+    }
+    if kind == 3 && after.elr < trap.vbar {
+        met.insert(Edge::VbarWraps);
+    }
+    if matches!(kind, 4 | 5) {
+        met.insert(Edge::Function(class, before.x[0]));
+    }
+}
+
+fn of_list(met: &mut BTreeSet<Edge>, number: u64) {
+    let list = generate::list(SEED, number);
+    let mut rust = RitmRust::fresh(list.counter);
+    for call in &list.calls {
+        let core = call.core().filter(|core| *core < 8).unwrap_or_default() as usize;
+        let (before, counter) = (rust.cores[core], rust.oracle.counter());
+        let asked = rust.outside(call).is_none();
+        let answer = asked.then(|| rust.take(call));
+        let after = rust.cores[core];
+        match *call {
+            Call::Trap { trap, .. } => {
+                let found = rust.oracle.find(trap.fipa << 12 | trap.far & 0xFFF).is_some();
+                of_trap(met, trap, answer.map_or(0, |answer| answer.words()[0]), &before, &after, found);
+            }
+            Call::Reply { .. } if asked && after.elr < before.elr => {
+                met.insert(Edge::ElrWraps(0));
+            }
+            Call::Allow { base, size, .. } if base.wrapping_add(size).wrapping_add(4096) <= 4096 && size > 0 => {
+                met.extend(answer.map(|answer| Edge::LastPage(answer.number)));
+            }
+            _ => {}
+        }
+        if rust.oracle.counter() < counter {
+            met.insert(Edge::CounterWraps);
+        }
+    }
+    met.insert(Edge::Ranges(rust.oracle.ranges().count()));
+    met.insert(Edge::Regions(rust.oracle.regions().count()));
+}
+
+#[test]
+fn lists_meet_the_edges() {
+    let mut met = BTreeSet::new();
+    (0..LISTS).for_each(|number| of_list(&mut met, number));
+    let missed: Vec<Edge> = expected().difference(&met).copied().collect();
+    assert_eq!(missed, []);
+}
