@@ -23,6 +23,7 @@ const STORE: u64 = 0x1C5_8040;
 const PAGE: u64 = 0x0F00_0000;
 const COUNTER_WORD: u64 = PAGE + 16;
 const VECTOR: u64 = 0x8_0000;
+/// 2^64, from which addresses are counted back.
 const END: u64 = 0;
 
 /// A call after some others, on fresh states.
