@@ -5,13 +5,16 @@ ghost use mathlib.Core.Bool.{cond};
 ghost use lib.Dec.{ltb};
 ghost use Rattle.lists.specs.Lists.{firstIndex};
 ghost use Rattle.words.specs.Words.{wordAt, each};
-ghost use Rattle.stage2_range.specs.Registry.{handlerNumber, hasAddress};
+ghost use Rattle.stage2_range.specs.Registry.{handlerNumber, hasAddress, findRegion};
 ghost use Rattle.stage2.specs.Policy.{regionsHeld};
 ghost use Rattle.policy_layout.specs.Layout.{rangeAt, regionAt, policyAt, withRange, withRegion, withAllowed, withRegions};
+use memory_access::Ipa;
 use stage2::Policy;
 use stage2_range::MemoryAccessHandler;
+use stage2_range::MemoryAccessHandlerMatch;
 use stage2_range::MemoryAccessRegion;
 use stage2_range::MemoryHandler;
+use stage2_range::RegionFound;
 use stage2_range::Stage2Range;
 
 // The length of the policy's buffer, in bytes.
@@ -201,4 +204,20 @@ pub fn get_region_base(policy: &[u8; POLICY_SIZE], place: u64) -> u64
         return 0;
     }
     words::get_word(policy, 129 + 5 * (place as usize))
+}
+
+// The first region held that has the address, and the offset in it. No other region is read whole.
+pub fn find_region(policy: &[u8; POLICY_SIZE], ipa: Ipa) -> RegionFound
+    ensures { λ r. ⌜ r ≡ findRegion (regionsHeld (policyAt (now (policy .entry)))) ipa ⌝ }
+{
+    let address = ipa.0;
+    let place = find_place(policy, address);
+    if place < lists::held_count(get_region_count(policy), 16) {
+        let region = get_region(policy, place as usize);
+        return RegionFound::Match(MemoryAccessHandlerMatch {
+            region,
+            offset: address - region.base_ipa,
+        });
+    }
+    RegionFound::Nothing
 }

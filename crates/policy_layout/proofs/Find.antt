@@ -1,0 +1,38 @@
+-- Laws of a search of the regions in lent bytes, by the place that it finds. Assumes nothing.
+use Prim.Native.Nat.{ℕ, _-_, _≤_, _<_, min}
+use mathlib.Core.Path.{_≡_}
+use mathlib.Core.List.{List}
+use native.Mathlib.Omega.{arith}
+use lib.ListN.{length}
+use Rattle.lists.specs.Lists.{firstIndex}
+use Rattle.memory_access.specs.declared.Ipa.{Ipa}
+use Rattle.stage2_range.specs.declared.RegionFound.the-variants.{Nothing, Match}
+use Rattle.stage2_range.specs.Registry.{hasAddress, fits, findRegion}
+use Rattle.stage2_range.proofs.Registry.{found-base, find-here, find-nothing}
+use Rattle.stage2.specs.Policy.{regionsHeld}
+use Rattle.words.specs.Words.{wordAt, each}
+use Rattle.words.proofs.Words.{length-each}
+use Rattle.policy_layout.specs.Layout.{regionAt, policyAt}
+use Rattle.policy_layout.proofs.Records.{region-of}
+
+module _ (policy : List ℕ) (ipa : Ipa) (k : ℕ) (e : k ≡ firstIndex (hasAddress (ipa .0)) (regionsHeld (policyAt policy))) where
+  full : length (each (regionAt policy) 0 16) ≡ 16
+  full = length-each (regionAt policy) 0 16
+
+  -- the region found has the address
+  pub base-below : k < min (wordAt policy 209) 16 → regionAt policy k .«base_ipa» ≤ ipa .0
+  unfolding policyAt fits
+  base-below h =
+      rw (region-of policy k (regionAt policy 0) (omega arith)) at (found-base (each (regionAt policy) 0 16) (wordAt policy 209) full ipa (regionAt policy 0) k e h)
+
+  -- it is what the search answers
+  pub region-here : k < min (wordAt policy 209) 16
+      → Match (record { region = regionAt policy k; offset = ipa .0 - regionAt policy k .«base_ipa» }) ≡ findRegion (regionsHeld (policyAt policy)) ipa
+  unfolding policyAt fits
+  region-here h =
+      rw (region-of policy k (regionAt policy 0) (omega arith)) at (find-here (each (regionAt policy) 0 16) (wordAt policy 209) full ipa (regionAt policy 0) k e h)
+
+  -- past those held there is none
+  pub region-nothing : min (wordAt policy 209) 16 ≤ k → Nothing ≡ findRegion (regionsHeld (policyAt policy)) ipa
+  unfolding policyAt fits
+  region-nothing h = find-nothing (each (regionAt policy) 0 16) (wordAt policy 209) full ipa (omega (arith, e))
