@@ -53,7 +53,7 @@ pub counter-answered : (regions : List MemoryAccessRegion) (core : Core) (counte
       core = advancePc (writeGpr core (access .«register_index») (extendReadResult access counter) .core);
       counter = (counter + 1) % 2 ^ 64;
     }
-unfolding handleDataAbort tryMemoryAccess decodeAccess emulateAccess accessIn readThrough loadsCounter
+unfolding handleDataAbort tryMemoryAccess decodeAccess accessIn readThrough loadsCounter
 counter-answered regions core counter trap l =
     let access = accessOf (iss (trap .esr)) (trap .fipa) (trap .far) in
     let of-counter : loadsCounter (pageRead access (l .found .offset)) ≡ true = rw (l .sas-3, l .offset-16) in
@@ -131,7 +131,6 @@ module _ (regions : List MemoryAccessRegion) (core : Core) (trap : TrapRegisters
 
   by-region : isv (iss (trap .esr)) ≡ true → (rt : ℕ) (found : RegionFound) → findRegion regions (access .ipa) ≡ found
       → CounterLoad regions trap ⊎ Steady (emulateAccess found access rt)
-  unfolding emulateAccess
   by-region v rt Nothing f = inr (λ counter counter′. refl)
   by-region v rt (Match m) f = by-direction v rt m f (wnr (iss (trap .esr))) refl
 

@@ -38,7 +38,7 @@ use Rattle.data_abort.specs.declared.AccessOutcome.{AccessOutcome}
 use Rattle.data_abort.specs.declared.AccessOutcome.the-variants.{Loaded, Stored, Unhandled}
 use Rattle.data_abort.specs.declared.Emulated.{Emulated}
 use Rattle.data_abort.specs.declared.TrapRegisters.{TrapRegisters}
-use Rattle.data_abort.specs.DataAbort.{iss, unhandled, readDone, writeDone, readThrough, writeThrough, accessIn, emulateAccess, accessDecoded, tryMemoryAccess, injected, injectionOf, injectDataAbort, abortDone, handleDataAbort, withEc, isUnhandled, injectionDue, abortNumber}
+use Rattle.data_abort.specs.DataAbort.{iss, unhandled, readDone, writeDone, readThrough, writeThrough, accessIn, emulateAccess, accessDecoded, tryMemoryAccess, injected, injectDataAbort, abortDone, handleDataAbort, withEc, isUnhandled, injectionDue, abortNumber}
 
 -- a mask clears bits 31:26
 ec-cleared : (e : ℕ) → e < 2 ^ 64 → bitAnd e (2 ^ 64 - 1 - 0x3F * 2 ^ 26) ≡ e / 2 ^ 32 * 2 ^ 32 + e % 2 ^ 26
@@ -144,7 +144,6 @@ module _ (P : Core → ℕ → Type 0) (core : Core) (counter : ℕ) (same : P c
   by-kind Write m access rt = by-write-handler (m .region .handler .write) access (m .offset) rt
 
   by-found : (found : RegionFound) (access : MemoryAccess) (rt : ℕ) → After (emulateAccess found access rt counter)
-  unfolding emulateAccess
   by-found Nothing access rt = unhandled-after
   by-found (Match m) access rt = by-kind (access .kind) m access rt
 
@@ -162,7 +161,7 @@ module _ (P : Core → ℕ → Type 0) (core : Core) (counter : ℕ) (same : P c
 -- a data abort leaves what the core waits for
 pub abort-wait : (regions : List MemoryAccessRegion) (core : Core) (counter : ℕ) (trap : TrapRegisters)
     → handleDataAbort regions core counter trap .core .wait ≡ core .wait
-unfolding advancePc injected injectionOf
+unfolding advancePc injected
 abort-wait regions core counter trap =
     abort-all (λ c n. c .wait ≡ core .wait) core counter refl
     (λ access value loads. write-wait core (access .«register_index») (extendReadResult access value))

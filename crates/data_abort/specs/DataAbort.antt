@@ -71,7 +71,7 @@ accessIn Read found access rt counter = readThrough (found .region .handler .rea
 accessIn Write found access rt counter = writeThrough (found .region .handler .write) access (found .offset) rt counter
 
 -- "no region" has the address, or one does: what the access comes to, where Rt holds `rt`
-unfoldable pub emulateAccess : RegionFound → MemoryAccess → ℕ → ℕ → Emulated
+abbrev pub emulateAccess : RegionFound → MemoryAccess → ℕ → ℕ → Emulated
 emulateAccess Nothing access rt counter = unhandled counter
 emulateAccess (Match found) access rt counter = accessIn (access .kind) found access rt counter
 
@@ -91,7 +91,7 @@ withEc esr ec = esr / 2 ^ 32 * 2 ^ 32 + ec * 2 ^ 26 + esr % 2 ^ 26
 
 -- "ELR_EL1 and SPSR_EL1 take the saved ELR and SPSR, FAR_EL1 the FAR, ESR_EL1 the whole ESR with EC 0x25; ELR becomes VBAR + 0x200
 -- modulo 2^64 and SPSR 0x3C5"
-unfoldable pub injectionOf : ℕ → ℕ → TrapRegisters → Injection
+abbrev pub injectionOf : ℕ → ℕ → TrapRegisters → Injection
 injectionOf elr spsr trap = record {
   elr = (trap .vbar + 0x200) % 2 ^ 64;
   spsr = 0x3C5;

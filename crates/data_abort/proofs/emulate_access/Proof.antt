@@ -1,5 +1,4 @@
 use borrow.Author.Needs.{needs}
-use Rattle.data_abort.specs.DataAbort.{emulateAccess}
 use Rattle.data_abort.proofs.emulate_access.Statement.{statement}
 use Rattle.data_abort.proofs.emulate_access.Tie as tie
 
@@ -16,11 +15,9 @@ unhandled-requires : tie.Need-unhandled-requires
 unhandled-requires c κs = search needs
 
 returns : tie.Need-returns
-unfolding emulateAccess
 returns c = rw (c .access-in .ensures, c .before .before .found .given .1)
 
 returns-2 : tie.Need-returns-2
-unfolding emulateAccess
 returns-2 c = rw (c .unhandled .ensures, c .before .enum-told .given .1)
 
 pub emulate-access-spec : {M : Type 1} → statement M

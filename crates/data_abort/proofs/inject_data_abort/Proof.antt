@@ -13,7 +13,7 @@ injection-of-requires c κs = search needs
 
 returns-2 : tie.Need-returns-2
 unfolding injectDataAbort injected
-returns-2 c = rw (ne-eqb _ _ (c .before .before .before .if1 .left), ← c .before .injection-of .ensures)
+returns-2 c = rw (ne-eqb _ _ (c .before .before .before .if1 .left), c .before .injection-of .ensures)
 
 pub inject-data-abort-spec : {M : Type 1} → statement M
 inject-data-abort-spec = tie.close (tie.spec returns injection-of-requires returns-2)

@@ -1,4 +1,3 @@
-use Rattle.data_abort.specs.DataAbort.{injectionOf}
 use borrow.Author.Needs.{needs}
 use Rattle.data_abort.proofs.injection_of.Statement.{statement}
 use Rattle.data_abort.proofs.injection_of.Tie as tie
@@ -10,7 +9,6 @@ wrapping-add-u64-requires : tie.Need-wrapping-add-u64-requires
 wrapping-add-u64-requires c κs = search needs
 
 returns : tie.Need-returns
-unfolding injectionOf
 returns c = rw (c .wrapping-add-u64 .ensures, c .before .same-el-syndrome .ensures)
 
 pub injection-of-spec : {M : Type 1} → statement M
