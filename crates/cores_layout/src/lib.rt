@@ -188,6 +188,31 @@ pub fn get_spsr(cores: &[u8; CORES_SIZE], core: u64) -> u64
     get_at(cores, core, 32)
 }
 
+// The value of a guest register.
+pub fn get_gpr(cores: &[u8; CORES_SIZE], core: u64, index: usize) -> GprRead
+    ensures { λ r. ⌜ r ≡ readGpr (getD (coresAt (now (cores .entry))) core freshCore) index ⌝ }
+{
+    match index {
+        0..=30 => GprRead::Value(get_at(cores, core, index)),
+        31 => GprRead::Value(0),
+        _ => GprRead::NoSuchRegister,
+    }
+}
+
+// The first registers, zeros past them.
+pub fn get_first(cores: &[u8; CORES_SIZE], core: u64, count: usize) -> [u64; 18]
+    ensures { λ r. ⌜ r ≡ take (min count 18) (getD (coresAt (now (cores .entry))) core freshCore .x) ++ replicate (18 - min count 18) 0 ⌝ }
+{
+    let mut first = [0u64; 18];
+    let held = lists::held_count(count as u64, 18) as usize;
+    let mut i: usize = 0;
+    while i < held {
+        first[i] = get_at(cores, core, i);
+        i += 1;
+    }
+    first
+}
+
 // Stores one word of a core, and nothing where there is no core of that number.
 fn put_at(cores: &mut [u8; CORES_SIZE], core: u64, word: usize, value: u64)
     requires { ⌜ word < 38 ⌝ }
@@ -205,6 +230,38 @@ pub fn put_advanced(cores: &mut [u8; CORES_SIZE], core: u64)
 {
     words::are_bytes(cores);
     let elr = get_elr(cores, core);
+    put_at(
+        cores,
+        core,
+        31,
+        std::num::wrapping_add_u64(elr, INSTRUCTION_LENGTH),
+    );
+}
+
+// Writes a guest register.
+pub fn put_gpr(cores: &mut [u8; CORES_SIZE], core: u64, index: usize, value: u64) -> GprWrite
+    ensures { λ r. ⌜ (r ≡ writeGpr (getD (coresAt (now (cores .entry))) core freshCore) index value .answer)
+        × (now (cores .exit)
+        ≡ cond (ltb 7 core) (now (cores .entry)) (withCore (now (cores .entry)) core (writeGpr (getD (coresAt (now (cores .entry))) core freshCore) index value .core))) ⌝ }
+{
+    words::are_bytes(cores);
+    match index {
+        0..=30 => {
+            put_at(cores, core, index, value);
+            GprWrite::Accepted
+        }
+        31 => GprWrite::Accepted,
+        _ => GprWrite::GuestRegisterWriteError,
+    }
+}
+
+// A load is done: its register takes the value, and ELR moves past the instruction.
+pub fn put_load(cores: &mut [u8; CORES_SIZE], core: u64, index: usize, value: u64)
+    ensures { λ _. ⌜ now (cores .exit)
+        ≡ cond (ltb 7 core) (now (cores .entry)) (withCore (now (cores .entry)) core (advancePc (writeGpr (getD (coresAt (now (cores .entry))) core freshCore) index value .core))) ⌝ }
+{
+    let elr = get_elr(cores, core);
+    put_gpr(cores, core, index, value);
     put_at(
         cores,
         core,
