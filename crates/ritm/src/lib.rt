@@ -3,29 +3,25 @@
 ghost use mathlib.Core.Path.{_≡_};
 ghost use lib.ListN.{replicate};
 ghost use Rattle.hypervisor.specs.Cores.{freshCores};
-ghost use Rattle.hypervisor.specs.Trap.{handleSyncLower};
 ghost use Rattle.policy_layout.specs.Layout.{policyAt};
 ghost use Rattle.cores_layout.specs.Layout.{coresAt, counterAt};
 ghost use Rattle.map_layout.specs.Layout.{mapAt};
 ghost use Rattle.simple_map.specs.Map.{emptyMap};
-ghost use Rattle.stage2.specs.Policy.{freshPolicy, regionsHeld};
+ghost use Rattle.stage2.specs.Policy.{freshPolicy};
 ghost use Rattle.ritm.specs.Interface.{allowCall, handleCall, findCall, saveCall, replyCall, trapCall, readCall, writeCall, insertCall, getCall, removeCall, decodeCall, extendCall, alignDownCall, alignUpCall, bufferSize};
 use cores_layout::CORES_SIZE;
 use cores_layout::REGISTERS_SIZE;
 use cores_layout::TRAP_RESULT_SIZE;
 use cores_layout::VALUES_SIZE;
 use data_abort::TrapRegisters;
-use exceptions::Core;
 use forwarded_call::HvcReply;
 use hypervisor::CoreError;
-use hypervisor::TrapStep;
 use map_layout::MAP_SIZE;
 use memory_access::Decoded;
 use memory_access::Fipa;
 use memory_access::MemoryAccess;
 use policy_layout::POLICY_SIZE;
 use simple_map::SuspendCoreData;
-use stage2::Policy;
 use words::ONE_WORD;
 use words::SIX_WORDS;
 use words::THREE_WORDS;
@@ -157,21 +153,6 @@ pub extern "C" fn ritm_save(
     0
 }
 
-// A trap of one core. The regions are read for a data abort only.
-fn trap_core(policy: &[u8; POLICY_SIZE], core: Core, counter: u64, trap: TrapRegisters) -> TrapStep
-    ensures { λ r. ⌜ r ≡ handleSyncLower (regionsHeld (policyAt (now (policy .entry)))) core counter trap ⌝ }
-{
-    if hypervisor::is_data_abort(trap.esr) {
-        let regions = policy_layout::get_regions(policy);
-        let count = policy_layout::get_region_count(policy);
-        hypervisor::handle_sync_lower(regions, count, core, counter, trap)
-    } else {
-        let fresh = Policy::new();
-        let regions = fresh.regions;
-        hypervisor::handle_sync_lower(regions, 0, core, counter, trap)
-    }
-}
-
 // Takes a core's trap: refusals 10 to 13. The result is the answer's kind and the values of a forwarded call.
 #[no_mangle]
 pub extern "C" fn ritm_trap(
@@ -188,10 +169,6 @@ pub extern "C" fn ritm_trap(
         × (now (cores .exit) ≡ trapCall (now (policy .entry)) (now (cores .entry)) core (record { esr = esr; fipa = record { 0 = fipa }; far = far; vbar = vbar }) .state)
         × (now (result .exit) ≡ trapCall (now (policy .entry)) (now (cores .entry)) core (record { esr = esr; fipa = record { 0 = fipa }; far = far; vbar = vbar }) .result) ⌝ }
 {
-    if LAST_CORE < core {
-        cores_layout::put_trap_result(result, 0, [0u64; 18]);
-        return CoreError::NoSuchCore.number();
-    }
     let fipa = Fipa(fipa);
     let trap = TrapRegisters {
         esr,
@@ -199,20 +176,7 @@ pub extern "C" fn ritm_trap(
         far,
         vbar,
     };
-    let one = cores_layout::get_core(cores, core);
-    let counter = cores_layout::get_counter(cores);
-    let step = trap_core(policy, one, counter, trap);
-    let answer = step.answer;
-    let values = step.values;
-    cores_layout::put_trap_result(result, answer.kind(), values);
-    let number = answer.number();
-    if number != 0 {
-        return number;
-    }
-    let after = step.core;
-    cores_layout::put_core(cores, core, after);
-    cores_layout::put_counter(cores, step.counter);
-    0
+    lent_trap::trap(policy, cores, core, trap, result)
 }
 
 // Gives a core the answer that it waits for: refusals 10, 14, 15.
