@@ -2,7 +2,7 @@
 // places. Any bytes are eight cores.
 ghost use mathlib.Core.Path.{_≡_};
 ghost use mathlib.Core.List.{_∷_, _++_};
-ghost use Prim.Native.Nat.{_+_, _-_, _*_, _≤_, _<_, min};
+ghost use Prim.Native.Nat.{_+_, _-_, _*_, _%_, _^_, _≤_, _<_, min};
 ghost use mathlib.Core.Bool.{cond};
 ghost use lib.Dec.{ltb};
 ghost use lib.ListN.{getD, take, replicate};
@@ -223,19 +223,22 @@ fn put_at(cores: &mut [u8; CORES_SIZE], core: u64, word: usize, value: u64)
     }
 }
 
-// A core past the instruction that trapped.
+// Stores an ELR past the instruction that it stands at.
+fn put_past(cores: &mut [u8; CORES_SIZE], core: u64, elr: u64)
+    ensures { λ _. ⌜ now (cores .exit) ≡ cond (ltb 7 core) (now (cores .entry)) (withWord (now (cores .entry)) (38 * core + 31) ((elr + 4) % 2 ^ 64)) ⌝ }
+{
+    let past = std::num::wrapping_add_u64(elr, INSTRUCTION_LENGTH);
+    put_at(cores, core, 31, past);
+}
+
+// A core past the instruction that trapped. Its other words stand as they would be stored, since they are bytes; so do the next stores.
 pub fn put_advanced(cores: &mut [u8; CORES_SIZE], core: u64)
     ensures { λ _. ⌜ now (cores .exit)
         ≡ cond (ltb 7 core) (now (cores .entry)) (withCore (now (cores .entry)) core (advancePc (getD (coresAt (now (cores .entry))) core freshCore))) ⌝ }
 {
     words::are_bytes(cores);
     let elr = get_elr(cores, core);
-    put_at(
-        cores,
-        core,
-        31,
-        std::num::wrapping_add_u64(elr, INSTRUCTION_LENGTH),
-    );
+    put_past(cores, core, elr);
 }
 
 // Writes a guest register.
@@ -260,14 +263,9 @@ pub fn put_load(cores: &mut [u8; CORES_SIZE], core: u64, index: usize, value: u6
     ensures { λ _. ⌜ now (cores .exit)
         ≡ cond (ltb 7 core) (now (cores .entry)) (withCore (now (cores .entry)) core (advancePc (writeGpr (getD (coresAt (now (cores .entry))) core freshCore) index value .core))) ⌝ }
 {
-    let elr = get_elr(cores, core);
+    let trapped = get_elr(cores, core);
     put_gpr(cores, core, index, value);
-    put_at(
-        cores,
-        core,
-        31,
-        std::num::wrapping_add_u64(elr, INSTRUCTION_LENGTH),
-    );
+    put_past(cores, core, trapped);
 }
 
 // What a core waits for, stored.

@@ -1,14 +1,17 @@
 -- Laws of the calls on a core: above 7 there is none, and one of the eight is stepped by itself. Assumes nothing.
 use Prim.Native.Nat.{ℕ, _<_, _≤_}
 use mathlib.Core.Path.{_≡_, refl, sym, ap, _∙_}
+use mathlib.Core.Bool.{Bool, true, false}
 use mathlib.Core.List.{List, []}
+use lib.Dec.{eqb, ltb}
 use lib.IntN.{ℤ}
 use native.Mathlib.Omega.{arith}
-use borrow.Author.Tests.{ne-eqb, lt-ltb, le-ltb}
+use borrow.Author.Tests.{ne-eqb, lt-ltb, le-ltb, ltb-true, ltb-false}
 use lib.ListN.{getD}
+use Rattle.lists.proofs.Laws.{cond-same}
 use Rattle.exceptions.specs.declared.Core.{Core}
-use Rattle.exceptions.specs.declared.GprWritten.{GprWritten}
 use Rattle.exceptions.specs.Registers.{freshCore, writeGpr, writeNumber}
+use Rattle.exceptions.proofs.Laws.{within-accepted}
 use Rattle.forwarded_call.specs.declared.ReplyAnswer.{ReplyAnswer}
 use Rattle.forwarded_call.specs.declared.ReplyAnswer.the-variants as reply
 use Rattle.forwarded_call.specs.declared.Replied.{Replied}
@@ -16,8 +19,9 @@ use Rattle.forwarded_call.specs.ForwardedCall.{replyNumber, replyCore}
 use Rattle.hypervisor.specs.declared.CoreStep.{CoreStep}
 use Rattle.hypervisor.specs.Answers.{coreNumber, replyAnswer}
 use Rattle.hypervisor.specs.Cores.{onCore, saveCore, saveOn, replyOn, replyStep}
-use Rattle.words.specs.Words.{wordAt, wordsAt}
+use Rattle.words.specs.Words.{wordAt, wordsAt, Bytes}
 use Rattle.cores_layout.specs.Layout.{coresAt, withCore}
+use Rattle.cores_layout.proofs.InPlace.{gpr-kept}
 use Rattle.lent_trap.proofs.Laws.{same-core, replaced}
 use Rattle.ritm.specs.Interface.{Left, unlessRefused, steppedCore, saveCall, replyCall, writeCall}
 
@@ -69,7 +73,7 @@ reply-one cores i kind values error h =
     stepLeft : List ℕ → ℕ → ℕ → Core → Left
     stepLeft cores i n core = record { number = n; state = unlessRefused n cores (withCore cores i core); result = [] }
 
--- The same two calls and a write, by what the code reads and calls: the core, and the step.
+-- The same two calls, by what the code reads and calls: the core, and the step.
 pub save-by : (cores registers : List ℕ) (i : ℕ) (x : List ℕ) (elr spsr : ℕ) (core : Core) (step : CoreStep) → i ≤ 7 → x ≡ wordsAt registers 0 31 → elr ≡ wordAt registers 31
     → spsr ≡ wordAt registers 32 → core ≡ getD (coresAt cores) i freshCore → step ≡ saveCore core x elr spsr → saveCall cores i registers ≡ steppedOne cores i step
 unfolding saveCall saveOn
@@ -81,13 +85,21 @@ pub reply-by : (cores values : List ℕ) (i kind : ℕ) (error : ℤ) (held : Li
     → core ≡ getD (coresAt cores) i freshCore → r ≡ replyCore core (record { kind = kind; values = held; error = error }) → replyCall cores i kind values error ≡ repliedOne cores i r
 reply-by cores values i kind error held core r h v c s = reply-one cores i kind values error h ∙ rw (s, c, v)
 
--- what a write to one core leaves
-abbrev pub writtenOne : List ℕ → ℕ → GprWritten → Left
-writtenOne cores i w =
-    let number = writeNumber (w .answer) in
-    record { number = number; state = unlessRefused number cores (withCore cores i (w .core)); result = [] }
-
-pub write-by : (cores : List ℕ) (i index value : ℕ) (core : Core) (w : GprWritten) → i ≤ 7 → core ≡ getD (coresAt cores) i freshCore → w ≡ writeGpr core index value
-    → writeCall cores i index value ≡ writtenOne cores i w
+-- What a write to one core leaves: a refusal stores the core as it stands, which changes nothing.
+pub write-one : (cores : List ℕ) (i index value : ℕ) → Bytes cores → i ≤ 7
+    → let w = writeGpr (getD (coresAt cores) i freshCore) index value in
+    writeCall cores i index value ≡ record { number = writeNumber (w .answer); state = withCore cores i (w .core); result = [] }
 unfolding writeCall
-write-by cores i index value core w h c s = rw (le-ltb 7 i h, same-core cores i (omega arith), s, c)
+write-one cores i index value bytes h = rw (le-ltb 7 i h, same-core cores i (omega arith)) (ap (λ (s : List ℕ). record { number = number; state = s; result = [] }) (go (ltb index 31) refl))
+  where
+    number : ℕ
+    number = writeNumber (writeGpr (getD (coresAt cores) i freshCore) index value .answer)
+
+    after : List ℕ
+    after = withCore cores i (writeGpr (getD (coresAt cores) i freshCore) index value .core)
+
+    go : (t : Bool) → ltb index 31 ≡ t → unlessRefused number cores after ≡ after
+    go true e = when-accepted number cores after (within-accepted (getD (coresAt cores) i freshCore) index value (omega (arith, ltb-true index 31 e)) .1)
+    go false e =
+        let same : cores ≡ after = rw (le-ltb 7 i h) at (gpr-kept cores i index value bytes (ltb-false index 31 e)) in
+        ap (unlessRefused number cores) (sym same) ∙ cond-same (eqb number 0) cores ∙ same

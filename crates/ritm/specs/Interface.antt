@@ -18,15 +18,14 @@ use Rattle.stage2_range.specs.Registry.{hasAddress, findRegion}
 use Rattle.stage2.specs.Policy.{regionsHeld, allowRange, handleRange}
 use Rattle.simple_map.specs.Map.{getItem, insertItem, insertNumber, removeItem}
 use Rattle.exceptions.specs.Registers.{readGpr, readNumber, readValue, writeGpr, writeNumber}
-use Rattle.data_abort.specs.declared.TrapRegisters.{TrapRegisters}
 use Rattle.hypervisor.specs.declared.CoresStep.{CoresStep}
-use Rattle.hypervisor.specs.Answers.{coreNumber, trapNumber, trapKind}
-use Rattle.hypervisor.specs.Cores.{noCore, saveOn, replyOn, trapOn}
+use Rattle.hypervisor.specs.Answers.{coreNumber}
+use Rattle.hypervisor.specs.Cores.{noCore, saveOn, replyOn}
 use Rattle.words.specs.Words.{wordAt, wordsAt, bytesOf}
 unfoldable pub use Rattle.words.specs.Words.{Left, unlessRefused}
 unfoldable pub use Rattle.lent_trap.specs.LentTrap.{trapCall}
 use Rattle.policy_layout.specs.Layout.{policyAt, withAllowed, withRegions}
-use Rattle.cores_layout.specs.Layout.{coresAt, withCore, counterAt, withCounter}
+use Rattle.cores_layout.specs.Layout.{coresAt, withCore}
 use Rattle.map_layout.specs.Layout.{mapAt, withPlaces, entryWords}
 
 -- `ritm_allow_range`: the allowed ranges are written, and no byte of the regions

@@ -226,7 +226,7 @@ pub extern "C" fn ritm_read_gpr(
         words::put_one_word(result, 0);
         return CoreError::NoSuchCore.number();
     }
-    let read = cores_layout::get_core(cores, core).read_gpr(index as usize);
+    let read = cores_layout::get_gpr(cores, core, index as usize);
     words::put_one_word(result, read.value());
     read.number()
 }
@@ -245,15 +245,9 @@ pub extern "C" fn ritm_write_gpr(
     if LAST_CORE < core {
         return CoreError::NoSuchCore.number();
     }
-    let written = cores_layout::get_core(cores, core).write_gpr(index as usize, value);
-    let answer = written.answer;
-    let number = answer.number();
-    if number != 0 {
-        return number;
-    }
-    let after = written.core;
-    cores_layout::put_core(cores, core, after);
-    0
+    // A refusal stores the core as it stands: of bytes, that changes nothing.
+    words::are_bytes(cores);
+    cores_layout::put_gpr(cores, core, index as usize, value).number()
 }
 
 // Holds an entry under a key, in place of the key's last one: refusal 16.

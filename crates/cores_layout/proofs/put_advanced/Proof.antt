@@ -15,25 +15,15 @@ are-bytes-requires c κs = search needs
 get-elr-requires : tie.Need-get-elr-requires
 get-elr-requires c κs = search needs
 
-wrapping-add-u64-requires : tie.Need-wrapping-add-u64-requires
-wrapping-add-u64-requires c κs = search needs
-
-put-at-requires : tie.Need-put-at-requires
-put-at-requires c κs = search needs
+put-past-requires : tie.Need-put-past-requires
+put-past-requires c κs = search needs
 
 returns : tie.Need-returns
 unfolding advancePc coreAt
-returns c = let s = c .before .before .before .before .before in
+returns c = let s = c .before .before .before .before in
     let a = s .before .before .before .args in
-    rw (c .put-at .ensures, c .before .wrapping-add-u64 .ensures, c .before .before .before .get-elr .ensures)
+    rw (c .put-past .ensures, c .before .before .get-elr .ensures)
     (any-put (a .cores .now) (a .core) (λ one. (31, (one .elr + 4) % 2 ^ 64) ∷ []) advancePc (s .are-bytes .ensures) (omega arith, tt) refl)
 
 pub put-advanced-spec : {M : Type 1} → statement M
-put-advanced-spec =
-    tie.close
-    (tie.spec
-    are-bytes-requires
-    get-elr-requires
-    wrapping-add-u64-requires
-    put-at-requires
-    returns)
+put-advanced-spec = tie.close (tie.spec are-bytes-requires get-elr-requires put-past-requires returns)
