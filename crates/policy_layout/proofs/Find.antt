@@ -1,20 +1,40 @@
--- Laws of a search of the regions in lent bytes, by the place that it finds. Assumes nothing.
-use Prim.Native.Nat.{ℕ, _-_, _≤_, _<_, min}
-use mathlib.Core.Path.{_≡_}
+-- Laws of searches in lent bytes. Assumes nothing.
+use Prim.Native.Nat.{ℕ, _+_, _-_, _*_, _≤_, _<_, min}
+use mathlib.Core.Path.{_≡_, sym, ap, _∙_}
+use mathlib.Core.Bool.{Bool}
 use mathlib.Core.List.{List}
 use native.Mathlib.Omega.{arith}
-use lib.ListN.{length}
+use lib.ListN.{length, getD}
 use Rattle.lists.specs.Lists.{firstIndex}
 use Rattle.memory_access.specs.declared.Ipa.{Ipa}
+use Rattle.stage2_range.specs.declared.Stage2Range.{Stage2Range}
+use Rattle.stage2_range.specs.declared.MemoryAccessRegion.{MemoryAccessRegion}
 use Rattle.stage2_range.specs.declared.RegionFound.the-variants.{Nothing, Match}
+use Rattle.stage2_range.specs.Ranges.{sharesByte}
 use Rattle.stage2_range.specs.Registry.{hasAddress, fits, findRegion}
 use Rattle.stage2_range.proofs.Registry.{found-base, find-here, find-nothing}
 use Rattle.stage2.specs.Policy.{regionsHeld}
 use Rattle.words.specs.Words.{wordAt, each}
 use Rattle.words.proofs.Words.{length-each}
-use Rattle.policy_layout.specs.Layout.{regionAt, policyAt}
-use Rattle.policy_layout.proofs.Records.{region-of}
+use Rattle.policy_layout.specs.Layout.{rangeAt, regionAt, policyAt}
+use Rattle.policy_layout.proofs.Records.{range-of, region-of}
 
+-- What a test of its words says of a record's byte in common with a range, it says of the element of the array.
+module _ (policy : List ℕ) (k base end : ℕ) where
+  pub range-shares : k < 32 → (t v : Bool) → t ≡ sharesByte (wordAt policy (4 * k)) (wordAt policy (4 * k + 2)) base end → t ≡ v → (d : Stage2Range) →
+      let r = getD (each (rangeAt policy) 0 32) k d in
+      sharesByte (r .«base_ipa») (r .«end_ipa») base end ≡ v
+  unfolding rangeAt
+  range-shares h t v e f d = ap (λ (r : Stage2Range). sharesByte (r .«base_ipa») (r .«end_ipa») base end) (range-of policy k d h) ∙ sym e ∙ f
+
+  pub region-shares : k < 16 → (t v : Bool) → t ≡ sharesByte (wordAt policy (129 + 5 * k)) (wordAt policy (129 + 5 * k + 2)) base end → t ≡ v
+      → (d : MemoryAccessRegion) →
+      let r = getD (each (regionAt policy) 0 16) k d in
+      sharesByte (r .«base_ipa») (r .«end_ipa») base end ≡ v
+  unfolding regionAt
+  region-shares h t v e f d = ap (λ (r : MemoryAccessRegion). sharesByte (r .«base_ipa») (r .«end_ipa») base end) (region-of policy k d h) ∙ sym e ∙ f
+
+-- A search for an address.
 module _ (policy : List ℕ) (ipa : Ipa) (k : ℕ) (e : k ≡ firstIndex (hasAddress (ipa .0)) (regionsHeld (policyAt policy))) where
   full : length (each (regionAt policy) 0 16) ≡ 16
   full = length-each (regionAt policy) 0 16

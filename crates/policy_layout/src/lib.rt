@@ -1,21 +1,27 @@
 // Where the bytes that a host lends hold the policy: little-endian 64-bit words at fixed places. Any bytes are a policy.
 ghost use mathlib.Core.Path.{_≡_};
-ghost use Prim.Native.Nat.{_<_};
+ghost use Prim.Native.Nat.{_+_, _≤_, _<_};
 ghost use mathlib.Core.Bool.{cond};
-ghost use lib.Dec.{ltb};
-ghost use Rattle.lists.specs.Lists.{firstIndex};
-ghost use Rattle.words.specs.Words.{wordAt, each};
-ghost use Rattle.stage2_range.specs.Registry.{handlerNumber, hasAddress, findRegion};
-ghost use Rattle.stage2.specs.Policy.{regionsHeld};
+ghost use lib.Dec.{eqb, leb, ltb};
+ghost use lib.ListN.{set};
+ghost use Rattle.lists.specs.Lists.{firstIndex, insertAt};
+ghost use Rattle.words.specs.Words.{wordAt, each, storeEach};
+ghost use Rattle.stage2_range.specs.Ranges.{resultNumber, sharesByte, overlapsAllowed};
+ghost use Rattle.stage2_range.specs.Registry.{handlerNumber, hasAddress, overlapsRegions, findRegion, insertRegion};
+ghost use Rattle.stage2.specs.Policy.{isHandler, allowedHeld, regionsHeld, allowAnswerFor, allowAnswer, allowRange, handleAnswerFor, handleAnswer, handleRange};
 ghost use Rattle.policy_layout.specs.Layout.{rangeAt, regionAt, policyAt, withRange, withRegion, withAllowed, withRegions};
 use memory_access::Ipa;
 use stage2::Policy;
+use stage2_range::MAX_ALLOWED_RANGES;
+use stage2_range::MAX_MEMORY_ACCESS_HANDLERS;
 use stage2_range::MemoryAccessHandler;
 use stage2_range::MemoryAccessHandlerMatch;
 use stage2_range::MemoryAccessRegion;
 use stage2_range::MemoryHandler;
 use stage2_range::RegionFound;
+use stage2_range::Stage2ConfigError;
 use stage2_range::Stage2Range;
+use stage2_range::Stage2Result;
 
 // The length of the policy's buffer, in bytes.
 pub const POLICY_SIZE: usize = 1680;
@@ -220,4 +226,111 @@ pub fn find_region(policy: &[u8; POLICY_SIZE], ipa: Ipa) -> RegionFound
         });
     }
     RegionFound::Nothing
+}
+
+// How many ranges there are, as the bytes say.
+fn get_allowed_count(policy: &[u8; POLICY_SIZE]) -> u64
+    ensures { λ r. ⌜ r ≡ wordAt (now (policy .entry)) 128 ⌝ }
+{
+    words::get_word(policy, 128)
+}
+
+// Whether a record whose base stands at a word, and its end two words further, shares a byte with the given range.
+fn shares_byte(policy: &[u8; POLICY_SIZE], at: usize, base_ipa: u64, end_ipa: u64) -> bool
+    requires { ⌜ at < 208 ⌝ }
+    ensures { λ r. ⌜ r ≡ sharesByte (wordAt (now (policy .entry)) at) (wordAt (now (policy .entry)) (at + 2)) «base_ipa» «end_ipa» ⌝ }
+{
+    stage2_range::page_ranges_overlap(
+        words::get_word(policy, at),
+        words::get_word(policy, at + 2),
+        base_ipa,
+        end_ipa,
+    )
+}
+
+// Some allowed range that is held shares a byte with the given range.
+fn overlaps_allowed(policy: &[u8; POLICY_SIZE], base_ipa: u64, end_ipa: u64) -> bool
+    ensures { λ r. ⌜ r ≡ overlapsAllowed (allowedHeld (policyAt (now (policy .entry)))) «base_ipa» «end_ipa» ⌝ }
+{
+    let held = lists::held_count(get_allowed_count(policy), MAX_ALLOWED_RANGES);
+    let mut place: u64 = 0;
+    while place < held {
+        if shares_byte(policy, 4 * (place as usize), base_ipa, end_ipa) {
+            return true;
+        }
+        place += 1;
+    }
+    false
+}
+
+// Some region that is held shares a byte with the given range.
+fn overlaps_regions(policy: &[u8; POLICY_SIZE], base_ipa: u64, end_ipa: u64) -> bool
+    ensures { λ r. ⌜ r ≡ overlapsRegions (regionsHeld (policyAt (now (policy .entry)))) «base_ipa» «end_ipa» ⌝ }
+{
+    let held = lists::held_count(get_region_count(policy), MAX_MEMORY_ACCESS_HANDLERS);
+    let mut place: u64 = 0;
+    while place < held {
+        if shares_byte(policy, 129 + 5 * (place as usize), base_ipa, end_ipa) {
+            return true;
+        }
+        place += 1;
+    }
+    false
+}
+
+// Refusals 5 to 7, in order.
+fn allow_answer_for(policy: &[u8; POLICY_SIZE], range: Stage2Range) -> Stage2Result
+    ensures { λ r. ⌜ r ≡ allowAnswerFor (policyAt (now (policy .entry))) range ⌝ }
+{
+    if MAX_ALLOWED_RANGES <= get_allowed_count(policy) {
+        return Stage2Result::Refused(Stage2ConfigError::TooManyAllowedRanges);
+    }
+    if overlaps_allowed(policy, range.base_ipa, range.end_ipa) {
+        return Stage2Result::Refused(Stage2ConfigError::AllowedRangeOverlap);
+    }
+    if overlaps_regions(policy, range.base_ipa, range.end_ipa) {
+        return Stage2Result::Refused(Stage2ConfigError::AllowedRangeOverlapsMemoryAccessHandler);
+    }
+    Stage2Result::Accepted
+}
+
+// Stores a range after those that are held, and counts it.
+fn add_range(policy: &mut [u8; POLICY_SIZE], range: Stage2Range)
+    requires { ⌜ wordAt (now policy) 128 < 32 ⌝ }
+    ensures { λ _. ⌜ now (policy .exit) ≡ withAllowed (now (policy .entry)) (set (each (rangeAt (now (policy .entry))) 0 32) (wordAt (now (policy .entry)) 128) range) (wordAt (now (policy .entry)) 128 + 1) ⌝ }
+{
+    words::are_bytes(policy);
+    let count = get_allowed_count(policy);
+    put_range(policy, count as usize, range);
+    words::put_word(policy, 128, count + 1);
+}
+
+// Allows the guest to access a range directly: refusals 1 to 7, in order. The range and the count are stored, and no other word.
+pub fn allow_range(
+    policy: &mut [u8; POLICY_SIZE],
+    base_ipa: u64,
+    size: u64,
+    attributes: u64,
+) -> Stage2Result
+    ensures { λ r. ⌜ (r ≡ allowRange (policyAt (now (policy .entry))) «base_ipa» size attributes .answer)
+        × (now (policy .exit) ≡ cond (eqb (resultNumber r) 0) (withAllowed (now (policy .entry)) (allowRange (policyAt (now (policy .entry))) «base_ipa» size attributes .policy .allowed) (allowRange (policyAt (now (policy .entry))) «base_ipa» size attributes .policy .«allowed_count»)) (now (policy .entry))) ⌝ }
+{
+    match stage2_range::validate_range(base_ipa, size) {
+        Stage2Result::Refused(error) => Stage2Result::Refused(error),
+        Stage2Result::Accepted => {
+            let range = Stage2Range {
+                base_ipa,
+                size,
+                end_ipa: base_ipa + size,
+                attributes,
+            };
+            match allow_answer_for(policy, range) {
+                Stage2Result::Refused(error) => Stage2Result::Refused(error),
+                Stage2Result::Accepted => {
+                    add_range(policy, range);
+                    Stage2Result::Accepted
+                }
+            }
+        }
+    }
 }
