@@ -4,7 +4,8 @@ use mathlib.Core.Path.{_≡_, refl, ap, _∙_}
 use mathlib.Core.List.{List}
 use native.Mathlib.Omega.{arith}
 use native.Mathlib.Nat.{add-zero, zero-add}
-use borrow.Author.Tests.{le-ltb}
+use borrow.Author.Tests.{le-ltb, ne-eqb}
+use lib.Dec.{eqb}
 use lib.ListN.{set}
 use Rattle.words.specs.Words.{wordAt, withWord, each, storeEach, wordsAt, withWords, readCode, keptCode, Lent}
 use Rattle.words.proofs.RoundTrip.{code-kept, lent-words}
@@ -12,7 +13,7 @@ use Rattle.words.proofs.InPlace.{words-rewritten, one-stored}
 use Rattle.stage2_range.specs.declared.Stage2Range.{Stage2Range}
 use Rattle.stage2_range.specs.declared.MemoryAccessRegion.{MemoryAccessRegion}
 use Rattle.stage2_range.specs.Registry.{handlerNumber}
-use Rattle.stage2.specs.Policy.{handlerOf}
+use Rattle.stage2.specs.Policy.{handlerOf, isHandler}
 use Rattle.policy_layout.specs.Layout.{rangeAt, withRange, regionAt, withRegion, withAllowed}
 use Rattle.policy_layout.proofs.Records.{rangeWords, regionWords, range-beside}
 
@@ -22,7 +23,13 @@ handler-read zero = refl
 handler-read (suc zero) = refl
 handler-read (suc (suc word)) = rw (le-ltb (suc (suc word)) 2 (omega arith))
 
--- so that to write the handler that a word means keeps the word
+-- a number names a handler where it is the number of the handler that it names
+pub handler-named : (number : ℕ) → eqb (handlerNumber (handlerOf number)) number ≡ isHandler number
+handler-named zero = refl
+handler-named (suc zero) = refl
+handler-named (suc (suc number)) = rw (le-ltb (suc (suc number)) 2 (omega arith), ne-eqb 0 (suc (suc number)) (λ e. omega arith))
+
+-- to write the handler that a word means keeps the word
 handler-kept : (word : ℕ) → keptCode 2 word (handlerNumber (handlerOf word)) ≡ word
 handler-kept word = ap (keptCode 2 word) (handler-read word) ∙ code-kept 2 word
 

@@ -2,4 +2,5 @@
 pub mod Records
 pub mod States
 pub mod InPlace
+pub mod Insertion
 pub mod Find
