@@ -4,13 +4,13 @@ use Prim.Native.Nat.{ℕ, zero, suc, _+_, _-_, _<_, _≤_}
 use mathlib.Core.Path.{_≡_, refl, sym, ap, _∙_}
 use mathlib.Core.List.{List, [], _∷_, _++_}
 use native.Mathlib.Omega.{arith}
-use native.Mathlib.Numerals.{add-one}
 use native.Mathlib.Nat.{add-zero, zero-add}
 use lib.ListN.{length, take, drop}
 use Rattle.lists.specs.Lists.{insertAt}
 use Rattle.words.specs.Words.{each, storeEach}
 use Rattle.words.proofs.Words.{length-each, each-same, store-append}
-use Rattle.words.proofs.InPlace.{store-kept, store-past}
+use Rattle.words.proofs.RoundTrip.{store-stays, store-keeps}
+use Rattle.words.proofs.InPlace.{store-kept}
 
 -- A part of what stands at places.
 module _ {A : Type 0} (f : ℕ → A) where
@@ -29,24 +29,56 @@ module _ {A : Type 0} (f : ℕ → A) where
       let m : n - i ≡ suc n - suc i = omega arith in
       drop-each (suc k) n i (omega arith) ∙ rw (e, m)
 
--- the bytes with `x` at place `i`, those from there up to place `n` one place further, and the others of `limit` as they were
-abbrev pub moved : {A : Type 0} → (List ℕ → ℕ → A) → (List ℕ → ℕ → A → List ℕ) → ℕ → ℕ → List ℕ → ℕ → A → List ℕ
-moved get put limit n b i x = storeEach put b i ((x ∷ each (get b) i (n - i)) ++ each (get b) (n + 1) (limit - (n + 1)))
+-- the bytes with what stands from place `i` up to place `n` one place further
+abbrev pub shifted : {A : Type 0} → (List ℕ → ℕ → A) → (List ℕ → ℕ → A → List ℕ) → ℕ → List ℕ → ℕ → List ℕ
+shifted get put n b i = storeEach put b (suc i) (each (get b) i (n - i))
 
--- Places of an array, where to store what stands at a place changes nothing, and no store changes another place.
+-- Places of an array, where to store what stands at a place changes nothing, and no store changes another place, in whatever order.
 module _ {A : Type 0} (get : List ℕ → ℕ → A) (put : List ℕ → ℕ → A → List ℕ) (Good : List ℕ → Type 0)
     (stays : (b : List ℕ) (k : ℕ) (x : A) → Good b → Good (put b k x))
     (same : (b : List ℕ) (k : ℕ) → Good b → put b k (get b k) ≡ b)
     (other : (b : List ℕ) (k : ℕ) (x : A) (i : ℕ) → (k ≡ i → ⊥) → get (put b k x) i ≡ get b i)
-    (limit n : ℕ) (b : List ℕ) where
-  -- to store an array with an insertion is to store from its place on
-  pub moved-start : (i : ℕ) (x : A) → i ≤ n → n < limit → Good b
-      → storeEach put b 0 (insertAt (each (get b) 0 limit) n i x) ≡ moved get put limit n b i x
+    (comm : (b : List ℕ) (i : ℕ) (x : A) (j : ℕ) (y : A) → (i ≡ j → ⊥) → put (put b i x) j y ≡ put (put b j y) i x)
+    (n : ℕ) (b : List ℕ) where
+  -- to store at a place below others is to store there first
+  put-first : (xs : List A) (c : List ℕ) (i : ℕ) (x : A) (k : ℕ) → i < k → put (storeEach put c k xs) i x ≡ storeEach put (put c i x) k xs
+  put-first [] c i x k h = refl
+  put-first (y ∷ ys) c i x k h =
+      put-first ys (put c k y) i x (suc k) (omega arith) ∙ ap (λ (d : List ℕ). storeEach put d (suc k) ys) (comm c k y i x (omega arith))
+
+  -- past the last nothing is moved
+  pub shift-none : shifted get put n b n ≡ b
+  shift-none =
+      let e : n - n ≡ 0 = omega arith in
+      rw e
+
+  -- to move one more is to store it one place further
+  pub shift-step : (k : ℕ) → 0 < k → k ≤ n → put (shifted get put n b k) k (get (shifted get put n b k) (k - 1)) ≡ shifted get put n b (k - 1)
+  shift-step zero l h = absurd (omega arith)
+  shift-step (suc i) l h =
+      let z : suc i - 1 ≡ i = omega arith in
+      let xs : List A = each (get b) (suc i) (n - suc i) in
+      let e : n - i ≡ suc (n - suc i) = omega arith in
+      let stood : get (storeEach put b (suc (suc i)) xs) i ≡ get b i =
+      store-keeps put (λ c. get c i) xs b (suc (suc i)) (λ c j x a u. other c j x i (omega arith)) in
+      rw (z, e) (ap (put (storeEach put b (suc (suc i)) xs) (suc i)) stood ∙ put-first xs b (suc i) (get b i) (suc (suc i)) (omega arith))
+
+  -- with the new one below them this is the array with an insertion, stored
+  pub shift-done : (limit i : ℕ) (x : A) → i ≤ n → n < limit → Good b
+      → put (shifted get put n b i) i x ≡ storeEach put b 0 (insertAt (each (get b) 0 limit) n i x)
   unfolding insertAt
-  moved-start i x h room good =
-      let rest : List A = (x ∷ each (get b) i (n - i)) ++ each (get b) (n + 1) (limit - (n + 1)) in
-      let z : 0 + length (each (get b) 0 i) ≡ i = zero-add (length (each (get b) 0 i)) ∙ length-each (get b) 0 i in
-      rw (
+  shift-done limit i x h room good =
+      let xs : List A = x ∷ each (get b) i (n - i) in
+      let m : ℕ = limit - (n + 1) in
+      let c : List ℕ = storeEach put b i xs in
+      let rest : List A = xs ++ each (get b) (n + 1) m in
+      let low : 0 + length (each (get b) 0 i) ≡ i = zero-add (length (each (get b) 0 i)) ∙ length-each (get b) 0 i in
+      let high : i + length xs ≡ n + 1 = omega (arith, length-each (get b) i (n - i)) in
+      let above : each (get b) (n + 1) m ≡ each (get c) (n + 1) m =
+      each-same (get b) (get c) (n + 1) m (λ j l u. sym (store-keeps put (λ d. get d j) xs b i (λ d k y a o. other d k y j (omega (arith, high))))) in
+      put-first (each (get b) i (n - i)) b i x (suc i) (omega arith)
+      ∙ sym
+      (rw (
         take-each (get b) 0 limit i (omega arith),
         take-each (get b) 0 limit n (omega arith),
         drop-each (get b) 0 n i h,
@@ -55,20 +87,9 @@ module _ {A : Type 0} (get : List ℕ → ℕ → A) (put : List ℕ → ℕ →
         zero-add (n + 1),
       )
       (store-append put b 0 (each (get b) 0 i) rest
-      ∙ ap (λ (j : ℕ). storeEach put (storeEach put b 0 (each (get b) 0 i)) j rest) z
-      ∙ ap (λ (c : List ℕ). storeEach put c i rest) (store-kept get put Good stays same other b 0 i good))
-
-  -- to store at a place leaves what stood there to store at the next
-  pub moved-step : (i : ℕ) (x : A) → i < n → moved get put limit n b i x ≡ moved get put limit n (put b i x) (i + 1) (get b i)
-  moved-step i x h =
-      let e : n - i ≡ suc (n - (i + 1)) = omega arith in
-      rw (e, kept (suc i) (n - (i + 1)) (omega arith), kept (n + 1) (limit - (n + 1)) (omega arith), add-one i)
-    where
-      kept : (k m : ℕ) → i < k → each (get b) k m ≡ each (get (put b i x)) k m
-      kept k m l = each-same (get b) (get (put b i x)) k m (λ j a u. sym (other b i x j (omega arith)))
-
-  -- the last is stored at place `n`
-  pub moved-last : (x : A) → Good b → moved get put limit n b n x ≡ put b n x
-  moved-last x good =
-      let e : n - n ≡ 0 = omega arith in
-      rw (e, add-one n) (store-past get put Good stays same other b n x (suc n) (limit - suc n) (omega arith) good)
+      ∙ ap (λ (j : ℕ). storeEach put (storeEach put b 0 (each (get b) 0 i)) j rest) low
+      ∙ ap (λ (d : List ℕ). storeEach put d i rest) (store-kept get put Good stays same other b 0 i good)
+      ∙ store-append put b i xs (each (get b) (n + 1) m)
+      ∙ ap (λ (j : ℕ). storeEach put c j (each (get b) (n + 1) m)) high
+      ∙ ap (storeEach put c (n + 1)) above
+      ∙ store-kept get put Good stays same other c (n + 1) m (store-stays put Good stays xs b i good)))

@@ -308,15 +308,13 @@ fn place_at(policy: &mut [u8; POLICY_SIZE], n: u64, at: u64, region: MemoryAcces
     ensures { λ _. ⌜ now (policy .exit) ≡ storeEach withRegion (now (policy .entry)) 0 (insertAt (each (regionAt (now (policy .entry))) 0 16) n at region) ⌝ }
 {
     words::are_bytes(policy);
-    let mut carried = region;
-    let mut place = at;
-    while place < n {
-        let moved = get_region(policy, place as usize);
-        put_region(policy, place as usize, carried);
-        carried = moved;
-        place += 1;
+    let mut place = n;
+    while at < place {
+        let below = get_region(policy, (place - 1) as usize);
+        put_region(policy, place as usize, below);
+        place -= 1;
     }
-    put_region(policy, n as usize, carried);
+    put_region(policy, at as usize, region);
 }
 
 // Stores a region at its place by base, and counts it.

@@ -1,21 +1,19 @@
 use native.Mathlib.Omega.{arith}
-use Prim.Native.Nat.{ℕ, _≤_, _-_}
-use mathlib.Core.Path.{_≡_, sym, _∙_, ap}
-use Rattle.lists.specs.Lists.{insertAt}
-use Rattle.words.specs.Words.{each, storeEach, Lent}
+use Prim.Native.Nat.{_≤_, _-_}
+use mathlib.Core.Path.{_≡_, sym}
+use Rattle.words.specs.Words.{Lent}
 use Rattle.policy_layout.specs.Layout.{regionAt, withRegion}
 use Rattle.policy_layout.proofs.Records.{region-beside}
-use Rattle.policy_layout.proofs.InPlace.{region-lent, region-rewritten}
-use Rattle.policy_layout.proofs.Insertion.{moved, moved-start, moved-step, moved-last}
+use Rattle.policy_layout.proofs.InPlace.{region-lent, region-rewritten, region-comm}
+use Rattle.policy_layout.proofs.Insertion.{shifted, shift-none, shift-step, shift-done}
 use Rattle.policy_layout.proofs.place_at.Statement.{statement}
 use Rattle.policy_layout.proofs.place_at.Tie as tie
 
 abbrev Inv-loop : tie.InvT-loop
-Inv-loop policy₀ n at carried₀ place₀ policy carried place =
-    (place ≤ n) × Lent 1680 policy × (storeEach withRegion policy₀ 0 (insertAt (each (regionAt policy₀) 0 16) n place₀ carried₀) ≡ moved regionAt withRegion 16 n policy place carried)
+Inv-loop policy₀ n at region place₀ policy place = (at ≤ place) × (place ≤ n) × (policy ≡ shifted regionAt withRegion n policy₀ place)
 
 abbrev μ-loop : tie.MeasureT-loop
-μ-loop policy₀ n at carried₀ place₀ policy carried place = n - place
+μ-loop policy₀ n at region place₀ policy place = place
 
 are-bytes-requires : tie.Need-are-bytes-requires Inv-loop μ-loop
 are-bytes-requires c κs = omega arith
@@ -23,8 +21,10 @@ are-bytes-requires c κs = omega arith
 loop-holds : tie.Need-loop-holds Inv-loop μ-loop
 loop-holds c =
     let a = c .before .before .before .args in
-    let lent : Lent 1680 (a .policy .now) = record { long = omega arith; bytes = c .are-bytes .ensures } in
-    (omega arith, lent, moved-start regionAt withRegion (Lent 1680) region-lent region-rewritten region-beside 16 (a .n) (a .policy .now) (a .at) (a .region) (omega arith) (omega arith) lent)
+    (omega arith, omega arith, sym (shift-none regionAt withRegion (Lent 1680) region-lent region-rewritten region-beside region-comm (a .n) (a .policy .now)))
+
+sub-get-region : tie.Need-sub-get-region Inv-loop μ-loop
+sub-get-region c = omega arith
 
 get-region-requires : tie.Need-get-region-requires Inv-loop μ-loop
 get-region-requires c κs = omega arith
@@ -32,19 +32,19 @@ get-region-requires c κs = omega arith
 put-region-requires : tie.Need-put-region-requires Inv-loop μ-loop
 put-region-requires c κs = omega arith
 
-add-place : tie.Need-add-place Inv-loop μ-loop
-add-place c = omega arith
+sub-place : tie.Need-sub-place Inv-loop μ-loop
+sub-place c = omega arith
 
 loop-less : tie.Need-loop-less Inv-loop μ-loop
 loop-less c = omega arith
 
 loop-again : tie.Need-loop-again Inv-loop μ-loop
 loop-again c =
-    let n = c .before .before .before .before .before .before .before .before .before .args .n in
+    let a = c .before .before .before .before .before .before .before .before .before .args in
     let l = c .before .before .before .before .before .loop in (
       omega arith,
-      rw (c .put-region .ensures) (region-lent (l .policy) (l .place) (l .carried) (l .inv .1)),
-      rw (c .put-region .ensures, c .before .before .get-region .ensures) (l .inv .2 ∙ moved-step regionAt withRegion (Lent 1680) region-lent region-rewritten region-beside 16 n (l .policy) (l .place) (l .carried) (omega arith)),
+      omega arith,
+      rw (c .put-region .ensures, c .before .before .get-region .ensures, l .inv .2) (shift-step regionAt withRegion (Lent 1680) region-lent region-rewritten region-beside region-comm (a .n) (a .policy .now) (l .place) (omega arith) (omega arith)),
     )
 
 put-region-requires-2 : tie.Need-put-region-requires-2 Inv-loop μ-loop
@@ -52,11 +52,11 @@ put-region-requires-2 c κs = omega arith
 
 returns : tie.Need-returns Inv-loop μ-loop
 returns c =
-    let n = c .before .before .before .before .before .before .before .args .n in
+    let a = c .before .before .before .before .before .before .before .args in
     let l = c .before .before .before .loop in
-    let e : l .place ≡ n = omega arith in
-    c .put-region2 .ensures
-    ∙ sym (l .inv .2 ∙ ap (λ (i : ℕ). moved regionAt withRegion 16 n (l .policy) i (l .carried)) e ∙ moved-last regionAt withRegion (Lent 1680) region-lent region-rewritten region-beside 16 n (l .policy) (l .carried) (l .inv .1))
+    let e : l .place ≡ a .at = omega arith in
+    let lent : Lent 1680 (a .policy .now) = record { long = omega arith; bytes = c .before .before .before .before .are-bytes .ensures } in
+    rw (c .put-region2 .ensures, l .inv .2, e) (shift-done regionAt withRegion (Lent 1680) region-lent region-rewritten region-beside region-comm (a .n) (a .policy .now) 16 (a .at) (a .region) (omega arith) (omega arith) lent)
 
 pub place-at-spec : {M : Type 1} → statement M
 place-at-spec =
@@ -66,9 +66,10 @@ place-at-spec =
     μ-loop
     are-bytes-requires
     loop-holds
+    sub-get-region
     get-region-requires
     put-region-requires
-    add-place
+    sub-place
     loop-less
     loop-again
     put-region-requires-2
