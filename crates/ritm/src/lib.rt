@@ -67,16 +67,7 @@ pub extern "C" fn ritm_allow_range(
     ensures { λ r. ⌜ (r ≡ allowCall (now (policy .entry)) «base_ipa» size attributes .number)
         × (now (policy .exit) ≡ allowCall (now (policy .entry)) «base_ipa» size attributes .state) ⌝ }
 {
-    let built = policy_layout::get_policy(policy).allow_range(base_ipa, size, attributes);
-    let answer = built.answer;
-    let number = answer.number();
-    if number != 0 {
-        return number;
-    }
-    let next = built.policy;
-    let allowed = next.allowed;
-    policy_layout::put_allowed(policy, allowed, next.allowed_count);
-    0
+    policy_layout::allow_range(policy, base_ipa, size, attributes).number()
 }
 
 // Has the guest's accesses to a range handled: refusals 20, 1 to 4, 6, 8, 9.
@@ -91,16 +82,7 @@ pub extern "C" fn ritm_handle_range(
     ensures { λ r. ⌜ (r ≡ handleCall (now (policy .entry)) «base_ipa» size read write .number)
         × (now (policy .exit) ≡ handleCall (now (policy .entry)) «base_ipa» size read write .state) ⌝ }
 {
-    let built = policy_layout::get_policy(policy).handle_range(base_ipa, size, read, write);
-    let answer = built.answer;
-    let number = answer.number();
-    if number != 0 {
-        return number;
-    }
-    let next = built.policy;
-    let regions = next.regions;
-    policy_layout::put_regions(policy, regions, next.region_count);
-    0
+    policy_layout::handle_range(policy, base_ipa, size, read, write).number()
 }
 
 // The first region held that has the address: whether there is one, its place and the offset in it.
