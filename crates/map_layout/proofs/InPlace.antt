@@ -28,6 +28,10 @@ use Rattle.map_layout.proofs.Records.{place-beside}
 abbrev pub valueAt : List ℕ → ℕ → SuspendCoreData
 valueAt b k = record { «entry_point» = wordAt b (4 * k + 2); «context_id» = wordAt b (4 * k + 3) }
 
+-- the place that its words make, where it is taken and where it is free
+abbrev standing : List ℕ → ℕ → Bool → Place
+standing b k t = cond t (taken (wordAt b (4 * k + 1)) (valueAt b k)) freePlace
+
 -- there are eight places
 pub eight : (b : List ℕ) → length (mapAt b .items) ≡ 8
 unfolding mapAt
@@ -55,7 +59,7 @@ place-same b k h = go (eqb (wordAt b (4 * k)) 1) refl
     kept code e = ap (keptCode 2 (wordAt b (4 * k))) (sym e) ∙ code-kept 2 (wordAt b (4 * k)) ∙ ap (wordAt b) (sym (add-zero (4 * k)))
 
     go : (t : Bool) → eqb (wordAt b (4 * k)) 1 ≡ t
-        → withWords b (4 * k) (placeWords (wordAt b (4 * k)) (cond t (taken (wordAt b (4 * k + 1)) (valueAt b k)) freePlace .item)) ≡ b
+        → withWords b (4 * k) (placeWords (wordAt b (4 * k)) (standing b k t .item)) ≡ b
     go true e = rw (kept 1 (ap (readCode 2) (eqb-true (wordAt b (4 * k)) 1 e))) (words-rewritten b (4 * k) 4 h)
     go false e = rw (kept 0 (not-taken (wordAt b (4 * k)) (eqb-false (wordAt b (4 * k)) 1 e))) (words-rewritten b (4 * k) 1 h)
 
@@ -106,6 +110,10 @@ index-set fits y e (x ∷ xs) (suc i) = go (fits x) (index-set fits y e xs i)
     go true h = omega arith
     go false h = omega arith
 
+-- a search answers one of the eight places, or 8
+pub index-within : (b : List ℕ) (fits : Place → Bool) (k : ℕ) → k ≡ firstIndex fits (mapAt b .items) → k ≤ 8
+index-within b fits k e = omega (arith, index-le fits (mapAt b .items), eight b)
+
 -- where a search finds a place, it fits
 fits-there : (b : List ℕ) (fits : Place → Bool) (k : ℕ) → k ≡ firstIndex fits (mapAt b .items) → k < 8 → fits (placeAt b k) ≡ true
 fits-there b fits k e l =
@@ -119,8 +127,7 @@ module _ (b : List ℕ) (key held : ℕ) (at-key : held ≡ firstIndex (holdsKey
   unfolding placeAt fits valueOf
   entry-at = get-at (mapAt b) key ∙ rw (eight b, ← at-key) (go (ltb held 8) refl)
     where
-      value : (t : Bool) → holdsKey key (cond t (taken (wordAt b (4 * held + 1)) (valueAt b held)) freePlace) ≡ true
-          → valueOf (cond t (taken (wordAt b (4 * held + 1)) (valueAt b held)) freePlace) ≡ Value (valueAt b held)
+      value : (t : Bool) → holdsKey key (standing b held t) ≡ true → valueOf (standing b held t) ≡ Value (valueAt b held)
       value true e = refl
       value false e = absurd (true≢false (sym e))
 
@@ -137,7 +144,7 @@ module _ (b : List ℕ) (key held : ℕ) (at-key : held ≡ firstIndex (holdsKey
       go true e = place-stored b held freePlace h (ltb-true held 8 e)
       go false e = rw (set-out (mapAt b .items) held freePlace (omega (arith, eight b, ltb-false held 8 e))) (places-same b h)
 
-  -- The place `free` is the first that is free.
+  -- The place `free` is the first that is free, and `value` is to be held.
   module _ (value : SuspendCoreData) (free : ℕ) (at-free : free ≡ firstIndex isFree (mapAt b .items)) where
     -- an insert, by the lower of the two places
     inserted : insertItem (mapAt b) key value
@@ -153,7 +160,7 @@ module _ (b : List ℕ) (key held : ℕ) (at-key : held ≡ firstIndex (holdsKey
     pub inserted-there : held < free → insertItem (mapAt b) key value ≡ record { answer = Accepted; map = record { items = set (mapAt b .items) held (taken key value) } }
     inserted-there l =
         let e : min held free ≡ held = omega arith in
-        inserted ∙ rw (e, lt-ltb held 8 (omega (arith, index-le isFree (mapAt b .items), eight b)), set-set (mapAt b .items) held freePlace (taken key value))
+        inserted ∙ rw (e, lt-ltb held 8 (omega (arith, index-within b isFree free at-free)), set-set (mapAt b .items) held freePlace (taken key value))
 
     -- no place is free, and none holds the key
     pub not-inserted : free ≤ held → 8 ≤ free → insertItem (mapAt b) key value ≡ record { answer = CapacityExceeded; map = mapAt b }
@@ -172,8 +179,7 @@ module _ (b : List ℕ) (key held : ℕ) (at-key : held ≡ firstIndex (holdsKey
     apart l e =
         go (eqb (wordAt b (4 * held)) 1) (fits-there b (holdsKey key) held at-key l) (fits-there b isFree held (e ∙ at-free) l)
       where
-        go : (t : Bool) → holdsKey key (cond t (taken (wordAt b (4 * held + 1)) (valueAt b held)) freePlace) ≡ true
-            → isFree (cond t (taken (wordAt b (4 * held + 1)) (valueAt b held)) freePlace) ≡ true → ⊥
+        go : (t : Bool) → holdsKey key (standing b held t) ≡ true → isFree (standing b held t) ≡ true → ⊥
         go true e f = true≢false (sym f)
         go false e f = true≢false (sym e)
 

@@ -19,7 +19,7 @@ use words::THREE_WORDS;
 // The length of the map's buffer, in bytes.
 pub const MAP_SIZE: usize = 256;
 
-// Whether a place holds an entry with the key; where none is sought, whether it is free.
+// Whether a place holds what is sought: an entry with the key, and where `taken` is false none at all.
 fn place_fits(map: &[u8; MAP_SIZE], place: usize, taken: bool, key: u64) -> bool
     requires { ⌜ place < 8 ⌝ }
     ensures { λ r. ⌜ r ≡ cond taken (holdsKey key) isFree (placeAt (now (map .entry)) place) ⌝ }
@@ -81,7 +81,7 @@ fn put_place(map: &mut [u8; MAP_SIZE], place: usize, value: Place)
     }
 }
 
-// Frees a place: its first word alone changes. There is no ninth to free.
+// Frees a place, of which the first word alone changes. Past the eighth there is none to free.
 fn free_place(map: &mut [u8; MAP_SIZE], place: usize)
     ensures { λ _. ⌜ now (map .exit) ≡ cond (ltb place 8) (withPlace (now (map .entry)) place freePlace) (now (map .entry)) ⌝ }
 {
@@ -122,32 +122,32 @@ pub fn remove_entry(map: &mut [u8; MAP_SIZE], key: u64) -> Lookup
         × (now (map .exit) ≡ withPlaces (now (map .entry)) (removeItem (mapAt (now (map .entry))) key .map .items)) ⌝ }
 {
     words::are_bytes(map);
-    let place = find_key(map, key);
-    let removed = value_at(map, place);
-    free_place(map, place);
+    let held = find_key(map, key);
+    let removed = value_at(map, held);
+    free_place(map, held);
     removed
 }
 
-// Puts an entry where the key's first one was or into the first free place, whichever is lower: where the first is removed, its place is free.
+// Holds an entry under the key. Once the key's first entry is removed its place is free too: the new one goes to the lower of the two places.
 pub fn insert_entry(map: &mut [u8; MAP_SIZE], key: u64, value: SuspendCoreData) -> Insertion
     ensures { λ r. ⌜ (r ≡ insertItem (mapAt (now (map .entry))) key value .answer)
         × (now (map .exit) ≡ cond (eqb (insertNumber r) 0) (withPlaces (now (map .entry)) (insertItem (mapAt (now (map .entry))) key value .map .items)) (now (map .entry))) ⌝ }
 {
     words::are_bytes(map);
-    let held = find_key(map, key);
+    let old = find_key(map, key);
     let free = find_free(map);
     let entry = Place {
         item: OptionItem::Some(Item { key, value }),
     };
-    if held < free {
-        put_place(map, held, entry);
+    if old < free {
+        put_place(map, old, entry);
         return Insertion::Accepted;
     }
     if 8 <= free {
         return Insertion::CapacityExceeded;
     }
     put_place(map, free, entry);
-    free_place(map, held);
+    free_place(map, old);
     Insertion::Accepted
 }
 
