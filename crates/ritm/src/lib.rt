@@ -247,16 +247,7 @@ pub extern "C" fn ritm_insert(
         entry_point,
         context_id,
     };
-    let inserted = map_layout::get_map(map).insert(key, value);
-    let answer = inserted.answer;
-    let number = answer.number();
-    if number != 0 {
-        return number;
-    }
-    let next = inserted.map;
-    let items = next.items;
-    map_layout::put_places(map, items);
-    0
+    map_layout::insert_entry(map, key, value).number()
 }
 
 // The entry of a key: whether there is one, its entry point and its context id.
@@ -265,7 +256,7 @@ pub extern "C" fn ritm_get(map: &[u8; MAP_SIZE], key: u64, result: &mut [u8; THR
     ensures { λ r. ⌜ (r ≡ getCall (now (map .entry)) key .number)
         × (now (result .exit) ≡ getCall (now (map .entry)) key .result) ⌝ }
 {
-    map_layout::put_lookup(result, map_layout::get_map(map).get(key));
+    map_layout::put_lookup(result, map_layout::get_entry(map, key));
     0
 }
 
@@ -280,12 +271,7 @@ pub extern "C" fn ritm_remove(
         × (now (map .exit) ≡ removeCall (now (map .entry)) key .state)
         × (now (result .exit) ≡ removeCall (now (map .entry)) key .result) ⌝ }
 {
-    let removed = map_layout::get_map(map).remove(key);
-    let lookup = removed.removed;
-    map_layout::put_lookup(result, lookup);
-    let next = removed.map;
-    let items = next.items;
-    map_layout::put_places(map, items);
+    map_layout::put_lookup(result, map_layout::remove_entry(map, key));
     0
 }
 
