@@ -22,7 +22,7 @@ use Rattle.hypervisor.specs.declared.CoresStep.{CoresStep}
 use Rattle.hypervisor.specs.Answers.{coreNumber}
 use Rattle.hypervisor.specs.Cores.{noCore, saveOn, replyOn}
 use Rattle.words.specs.Words.{wordAt, wordsAt, bytesOf}
-unfoldable pub use Rattle.words.specs.Words.{Left, unlessRefused}
+pub use Rattle.words.specs.Words.{Left, unlessRefused}
 unfoldable pub use Rattle.lent_trap.specs.LentTrap.{trapCall}
 use Rattle.policy_layout.specs.Layout.{policyAt, withAllowed, withRegions}
 use Rattle.cores_layout.specs.Layout.{coresAt, withCore}

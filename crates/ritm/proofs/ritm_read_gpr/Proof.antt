@@ -2,7 +2,7 @@ use borrow.Author.Needs.{needs}
 use borrow.Author.Tests.{lt-ltb, le-ltb}
 use native.Mathlib.Omega.{arith}
 use Rattle.ritm.specs.Interface.{readCall}
-use Rattle.ritm.proofs.Cores.{same-core}
+use Rattle.lent_trap.proofs.Laws.{same-core}
 use Rattle.ritm.proofs.ritm_read_gpr.Statement.{statement}
 use Rattle.ritm.proofs.ritm_read_gpr.Tie as tie
 
