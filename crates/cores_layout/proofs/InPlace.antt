@@ -63,10 +63,11 @@ first-next f n k v h e =
     ∙ set-at (each f 0 k) 0 past v k (length-each f 0 k)
     ∙ sym (ap (λ (l : List ℕ). l ++ past) read ∙ append-assoc (each f 0 k) (v ∷ []) past)
 
+-- in the end they are the core's
 pub first-done : (b : List ℕ) (i m : ℕ) → m ≤ 31 → each (λ j. cond (ltb 7 i) 0 (wordAt b (38 * i + j))) 0 m ≡ take m (getD (coresAt b) i freshCore .x)
 first-done b i m h = sym (ap (take m) (core-x b i) ∙ take-each (λ j. cond (ltb 7 i) 0 (wordAt b (38 * i + j))) 0 31 m h)
 
--- the number of what a code means is the code that its word reads as
+-- to write what a word means keeps the word
 wait-kept : (w : ℕ) → keptCode 5 w (waitNumber (waitOf w)) ≡ w
 unfolding waitOf
 wait-kept w = ap (keptCode 5 w) (number w) ∙ code-kept 5 w

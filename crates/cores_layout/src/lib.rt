@@ -231,7 +231,7 @@ fn put_past(cores: &mut [u8; CORES_SIZE], core: u64, elr: u64)
     put_at(cores, core, 31, past);
 }
 
-// A core past the instruction that trapped. Its other words stand as they would be stored, since they are bytes; so do the next stores.
+// A core past the instruction that trapped. Here and below, the core's words that are not stored stand as they would be stored, since they are bytes.
 pub fn put_advanced(cores: &mut [u8; CORES_SIZE], core: u64)
     ensures { λ _. ⌜ now (cores .exit)
         ≡ cond (ltb 7 core) (now (cores .entry)) (withCore (now (cores .entry)) core (advancePc (getD (coresAt (now (cores .entry))) core freshCore))) ⌝ }
@@ -268,7 +268,7 @@ pub fn put_load(cores: &mut [u8; CORES_SIZE], core: u64, index: usize, value: u6
     put_past(cores, core, trapped);
 }
 
-// What a core waits for, stored.
+// Stores what a core waits for.
 pub fn put_wait(cores: &mut [u8; CORES_SIZE], core: u64, wait: Wait)
     ensures { λ _. ⌜ now (cores .exit)
         ≡ cond (ltb 7 core) (now (cores .entry)) (withCore (now (cores .entry)) core (record {
@@ -287,7 +287,7 @@ pub fn put_wait(cores: &mut [u8; CORES_SIZE], core: u64, wait: Wait)
     }
 }
 
-// Where a core goes on and how, and its EL1 registers.
+// Stores a core's ELR, SPSR and EL1 registers, as an injected abort sets them.
 pub fn put_return(cores: &mut [u8; CORES_SIZE], core: u64, elr: u64, spsr: u64, el1: FaultRegisters)
     ensures { λ _. ⌜ now (cores .exit)
         ≡ cond (ltb 7 core) (now (cores .entry)) (withCore (now (cores .entry)) core (record {
