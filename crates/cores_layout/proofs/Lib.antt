@@ -1,3 +1,4 @@
 -- Laws of the cores in lent bytes.
 pub mod Records
+pub mod InPlace
 pub mod States

@@ -74,11 +74,11 @@ unfolding coreAt
 core-in i = record { reads = λ c. refl }
 
 -- the words that a core is stored as, past its registers
-abbrev restWords : List ℕ → ℕ → Core → List ℕ
+abbrev pub restWords : List ℕ → ℕ → Core → List ℕ
 restWords b i c = c .elr ∷ c .spsr ∷ (faultWords (c .el1) ++ (keptCode 5 (wordAt b (38 * i + 37)) (waitNumber (c .wait)) ∷ []))
 
 -- a core is stored as 38 words
-length-core : (b : List ℕ) (i : ℕ) (c : Core) → length (c .x) ≡ 31 → length (c .x ++ restWords b i c) ≡ 38
+pub length-core : (b : List ℕ) (i : ℕ) (c : Core) → length (c .x) ≡ 31 → length (c .x ++ restWords b i c) ≡ 38
 length-core b i c registers = length-append (c .x) (restWords b i c) ∙ rw registers
 
 -- the numbers of a core fit words

@@ -35,9 +35,9 @@ use Rattle.data_abort.specs.declared.AbortAnswer.the-variants.{Handled}
 use Rattle.data_abort.specs.declared.AbortStep.{AbortStep}
 use Rattle.data_abort.specs.declared.AccessOutcome.{AccessOutcome}
 use Rattle.data_abort.specs.declared.AccessOutcome.the-variants as outcome
-use Rattle.data_abort.specs.declared.Accessed.{Accessed}
+use Rattle.data_abort.specs.declared.Emulated.{Emulated}
 use Rattle.data_abort.specs.declared.TrapRegisters.{TrapRegisters}
-use Rattle.data_abort.specs.DataAbort.{iss, readDone, writeDone, readThrough, writeThrough, accessIn, accessFound, accessDecoded, tryMemoryAccess, injectDataAbort, abortDone, handleDataAbort}
+use Rattle.data_abort.specs.DataAbort.{iss, readDone, writeDone, readThrough, writeThrough, accessIn, emulateAccess, accessDecoded, tryMemoryAccess, injectDataAbort, abortDone, handleDataAbort}
 use Rattle.data_abort.specs.CounterLoad.{CounterLoad}
 
 -- the access to the filtered MMIO page at an offset
@@ -60,39 +60,33 @@ counter-answered regions core counter trap l =
     rw (l .isv-set, l .is-found, l .wnr-clear, l .reads-page, counter-loaded (pageRead access (l .found .offset)) counter of-counter)
 
 -- An access that does not depend on the counter, and leaves it.
-abbrev Steady : (ℕ → Accessed) → Type 0
-Steady f = (counter counter′ : ℕ) → f counter ≡ record { outcome = f counter′ .outcome; core = f counter′ .core; counter = counter }
+abbrev Steady : (ℕ → Emulated) → Type 0
+Steady f = (counter counter′ : ℕ) → f counter ≡ record { outcome = f counter′ .outcome; counter = counter }
 
 -- a load that finds the same at both counters, and the counter as it was
-read-steady : (result : MemoryReadResult) (after after′ : ℕ) (access : MemoryAccess) (core : Core) (counter counter′ : ℕ) → after ≡ counter
-    → readDone result after access core counter
-    ≡ record {
-      outcome = readDone result after′ access core counter′ .outcome;
-      core = readDone result after′ access core counter′ .core;
-      counter = counter;
-    }
-read-steady (read.Value value) after after′ access core counter counter′ e = rw e
-read-steady read.Fault after after′ access core counter counter′ e = refl
+read-steady : (result : MemoryReadResult) (after after′ : ℕ) (access : MemoryAccess) (counter counter′ : ℕ) → after ≡ counter
+    → readDone result after access counter ≡ record { outcome = readDone result after′ access counter′ .outcome; counter = counter }
+read-steady (read.Value value) after after′ access counter counter′ e = rw e
+read-steady read.Fault after after′ access counter counter′ e = refl
 
-page-read-steady : (access : MemoryAccess) (offset : ℕ) (core : Core) → loadsCounter (pageRead access offset) ≡ false
-    → Steady (readThrough FilteredMmio access offset core)
+page-read-steady : (access : MemoryAccess) (offset : ℕ) → loadsCounter (pageRead access offset) ≡ false
+    → Steady (readThrough FilteredMmio access offset)
 unfolding readThrough
-page-read-steady access offset core e counter counter′ =
+page-read-steady access offset e counter counter′ =
     let kept = counter-kept (pageRead access offset) counter counter′ e in
     rw (kept .0)
     (read-steady (readFilteredMmio (pageRead access offset) counter′ .result) (readFilteredMmio (pageRead access offset) counter .counter)
-    (readFilteredMmio (pageRead access offset) counter′ .counter) access core counter counter′ (kept .1))
+    (readFilteredMmio (pageRead access offset) counter′ .counter) access counter counter′ (kept .1))
 
 -- a store never depends on the counter
-done-steady : (result : MemoryWriteResult) (core : Core) → Steady (writeDone result core)
-done-steady write.Handled core counter counter′ = refl
-done-steady write.Fault core counter counter′ = refl
+done-steady : (result : MemoryWriteResult) → Steady (writeDone result)
+done-steady write.Handled counter counter′ = refl
+done-steady write.Fault counter counter′ = refl
 
-write-steady : (handler : MemoryHandler) (access : MemoryAccess) (offset : ℕ) (core : Core)
-    → Steady (writeThrough handler access offset core)
+write-steady : (handler : MemoryHandler) (access : MemoryAccess) (offset rt : ℕ) → Steady (writeThrough handler access offset rt)
 unfolding writeThrough
-write-steady Absent access offset core counter counter′ = refl
-write-steady FilteredMmio access offset core counter counter′ = done-steady (writeFilteredMmio _) core counter counter′
+write-steady Absent access offset rt counter counter′ = refl
+write-steady FilteredMmio access offset rt counter counter′ = done-steady (writeFilteredMmio _) counter counter′
 
 -- an access of 64 bits has SAS 3
 sas-of-64 : (n : ℕ) → n < 4 → is64 (widthOf n) ≡ true → n ≡ 3
@@ -109,13 +103,13 @@ module _ (regions : List MemoryAccessRegion) (core : Core) (trap : TrapRegisters
   -- through the read handler of the region found
   by-handler : isv (iss (trap .esr)) ≡ true → wnr (iss (trap .esr)) ≡ false → (m : MemoryAccessHandlerMatch)
       → findRegion regions (access .ipa) ≡ Match m → (handler : MemoryHandler) → m .region .handler .read ≡ handler
-      → CounterLoad regions trap ⊎ Steady (readThrough handler access (m .offset) core)
+      → CounterLoad regions trap ⊎ Steady (readThrough handler access (m .offset))
   unfolding readThrough loadsCounter
   by-handler v d m f Absent h = inr (λ counter counter′. refl)
   by-handler v d m f FilteredMmio h = go (loadsCounter (pageRead access (m .offset))) refl
     where
       go : (b : Bool) → loadsCounter (pageRead access (m .offset)) ≡ b
-          → CounterLoad regions trap ⊎ Steady (readThrough FilteredMmio access (m .offset) core)
+          → CounterLoad regions trap ⊎ Steady (readThrough FilteredMmio access (m .offset))
       go true e =
           let both = both-true (is64 (access .width)) (eqb (m .offset) 16) e in
           inl (record {
@@ -127,23 +121,23 @@ module _ (regions : List MemoryAccessRegion) (core : Core) (trap : TrapRegisters
             offset-16 = eqb-true (m .offset) 16 (both .1);
             reads-page = h;
           })
-      go false e = inr (page-read-steady access (m .offset) core e)
+      go false e = inr (page-read-steady access (m .offset) e)
 
-  by-direction : isv (iss (trap .esr)) ≡ true → (m : MemoryAccessHandlerMatch) → findRegion regions (access .ipa) ≡ Match m
-      → (write : Bool) → wnr (iss (trap .esr)) ≡ write → CounterLoad regions trap ⊎ Steady (accessIn (kindOf write) m access core)
+  by-direction : isv (iss (trap .esr)) ≡ true → (rt : ℕ) (m : MemoryAccessHandlerMatch) → findRegion regions (access .ipa) ≡ Match m
+      → (write : Bool) → wnr (iss (trap .esr)) ≡ write → CounterLoad regions trap ⊎ Steady (accessIn (kindOf write) m access rt)
   unfolding accessIn
-  by-direction v m f true d = inr (write-steady (m .region .handler .write) access (m .offset) core)
-  by-direction v m f false d = by-handler v d m f (m .region .handler .read) refl
+  by-direction v rt m f true d = inr (write-steady (m .region .handler .write) access (m .offset) rt)
+  by-direction v rt m f false d = by-handler v d m f (m .region .handler .read) refl
 
-  by-region : isv (iss (trap .esr)) ≡ true → (found : RegionFound) → findRegion regions (access .ipa) ≡ found
-      → CounterLoad regions trap ⊎ Steady (accessFound found access core)
-  by-region v Nothing f = inr (λ counter counter′. refl)
-  by-region v (Match m) f = by-direction v m f (wnr (iss (trap .esr))) refl
+  by-region : isv (iss (trap .esr)) ≡ true → (rt : ℕ) (found : RegionFound) → findRegion regions (access .ipa) ≡ found
+      → CounterLoad regions trap ⊎ Steady (emulateAccess found access rt)
+  by-region v rt Nothing f = inr (λ counter counter′. refl)
+  by-region v rt (Match m) f = by-direction v rt m f (wnr (iss (trap .esr))) refl
 
   by-syndrome : (valid : Bool) → isv (iss (trap .esr)) ≡ valid
       → CounterLoad regions trap ⊎ Steady (λ counter. accessDecoded (cond valid (Access access) NoSyndrome) regions core counter)
   by-syndrome false v = inr (λ counter counter′. refl)
-  by-syndrome true v = by-region v (findRegion regions (access .ipa)) refl
+  by-syndrome true v = by-region v _ (findRegion regions (access .ipa)) refl
 
   counter-or-steady : CounterLoad regions trap ⊎ Steady (λ counter. tryMemoryAccess regions core counter trap)
   unfolding tryMemoryAccess decodeAccess
@@ -161,24 +155,25 @@ inject-steady : (core : Core) (trap : TrapRegisters) → StepSteady (λ counter.
 unfolding injectDataAbort
 inject-steady core trap = cond-steady (eqb (trap .vbar) 0) _ _ (λ counter counter′. refl) (λ counter counter′. refl)
 
-done-step-steady : (o : AccessOutcome) (accessed : Accessed) (injection : ℕ → AbortStep) → StepSteady injection → (counter counter′ : ℕ)
-    → abortDone o (record { outcome = accessed .outcome; core = accessed .core; counter = counter }) (injection counter)
+done-step-steady : (o : AccessOutcome) (core : Core) (injection : ℕ → AbortStep) → StepSteady injection → (counter counter′ after : ℕ)
+    → abortDone o counter core (injection counter)
     ≡ record {
-      answer = abortDone o accessed (injection counter′) .answer;
-      core = abortDone o accessed (injection counter′) .core;
+      answer = abortDone o after core (injection counter′) .answer;
+      core = abortDone o after core (injection counter′) .core;
       counter = counter;
     }
-done-step-steady (outcome.Handled kind) accessed injection s counter counter′ = refl
-done-step-steady outcome.Unhandled accessed injection s counter counter′ = s counter counter′
+done-step-steady (outcome.Loaded register value) core injection s counter counter′ after = refl
+done-step-steady outcome.Stored core injection s counter counter′ after = refl
+done-step-steady outcome.Unhandled core injection s counter counter′ after = s counter counter′
 
 module _ (regions : List MemoryAccessRegion) (core : Core) (trap : TrapRegisters) where
   handle-steady : Steady (λ counter. tryMemoryAccess regions core counter trap)
       → StepSteady (λ counter. handleDataAbort regions core counter trap)
   unfolding handleDataAbort
   handle-steady s counter counter′ =
-      let accessed = tryMemoryAccess regions core counter′ trap in
+      let emulated = tryMemoryAccess regions core counter′ trap in
       rw (s counter counter′)
-      (done-step-steady (accessed .outcome) accessed (λ k. injectDataAbort core k trap) (inject-steady core trap) counter counter′)
+      (done-step-steady (emulated .outcome) core (λ k. injectDataAbort core k trap) (inject-steady core trap) counter counter′ (emulated .counter))
 
   -- a data abort that does not load the counter word neither depends on the counter nor changes it
   pub counter-unused : (CounterLoad regions trap → ⊥) → (counter counter′ : ℕ)

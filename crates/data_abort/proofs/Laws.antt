@@ -35,10 +35,10 @@ use Rattle.qemu.specs.FilteredMmio.{loadsCounter, counterAfter, readFilteredMmi
 use Rattle.data_abort.specs.declared.AbortAnswer.the-variants.{Injected, NoGuestVector}
 use Rattle.data_abort.specs.declared.AbortStep.{AbortStep}
 use Rattle.data_abort.specs.declared.AccessOutcome.{AccessOutcome}
-use Rattle.data_abort.specs.declared.AccessOutcome.the-variants.{Handled, Unhandled}
-use Rattle.data_abort.specs.declared.Accessed.{Accessed}
+use Rattle.data_abort.specs.declared.AccessOutcome.the-variants.{Loaded, Stored, Unhandled}
+use Rattle.data_abort.specs.declared.Emulated.{Emulated}
 use Rattle.data_abort.specs.declared.TrapRegisters.{TrapRegisters}
-use Rattle.data_abort.specs.DataAbort.{iss, readDone, writeDone, readThrough, writeThrough, accessIn, accessFound, accessDecoded, tryMemoryAccess, injected, injectDataAbort, abortDone, handleDataAbort, withEc, isUnhandled, injectionDue, abortNumber}
+use Rattle.data_abort.specs.DataAbort.{iss, unhandled, readDone, writeDone, readThrough, writeThrough, accessIn, emulateAccess, accessDecoded, tryMemoryAccess, injected, injectDataAbort, abortDone, handleDataAbort, withEc, isUnhandled, injectionDue, abortNumber}
 
 -- a mask clears bits 31:26
 ec-cleared : (e : ℕ) → e < 2 ^ 64 → bitAnd e (2 ^ 64 - 1 - 0x3F * 2 ^ 26) ≡ e / 2 ^ 32 * 2 ^ 32 + e % 2 ^ 26
@@ -77,9 +77,10 @@ unfolding handleDataAbort injectionDue injectDataAbort
 abort-number regions core counter trap = go (tryMemoryAccess regions core counter trap .outcome)
   where
     go : (o : AccessOutcome)
-        → abortNumber (abortDone o (tryMemoryAccess regions core counter trap) (injectDataAbort core counter trap) .answer)
+        → abortNumber (abortDone o (tryMemoryAccess regions core counter trap .counter) core (injectDataAbort core counter trap) .answer)
         ≡ cond (isUnhandled o && eqb (trap .vbar) 0) 13 0
-    go (Handled kind) = refl
+    go (Loaded register value) = refl
+    go Stored = refl
     go Unhandled = cond-map (λ (s : AbortStep). abortNumber (s .answer)) (eqb (trap .vbar) 0) _ _
 
 -- A refusal changes nothing.
@@ -87,13 +88,14 @@ module _ (regions : List MemoryAccessRegion) (core : Core) (counter : ℕ) (trap
   -- the step, by what comes of the access and by whether VBAR is 0
   abbrev stepBy : AccessOutcome → Bool → AbortStep
   stepBy o no-vector =
-      abortDone o (tryMemoryAccess regions core counter trap)
+      abortDone o (tryMemoryAccess regions core counter trap .counter) core
       (cond no-vector (record { answer = NoGuestVector; core = core; counter = counter })
       (record { answer = Injected; core = injected core trap; counter = counter }))
 
   refused-by : (o : AccessOutcome) (no-vector : Bool) → (abortNumber (stepBy o no-vector .answer) ≡ 0 → ⊥)
       → (stepBy o no-vector .core ≡ core) × (stepBy o no-vector .counter ≡ counter)
-  refused-by (Handled kind) no-vector h = absurd (h refl)
+  refused-by (Loaded register value) no-vector h = absurd (h refl)
+  refused-by Stored no-vector h = absurd (h refl)
   refused-by Unhandled true h = (refl, refl)
   refused-by Unhandled false h = absurd (h refl)
 
@@ -108,53 +110,52 @@ module _ (P : Core → ℕ → Type 0) (core : Core) (counter : ℕ) (same : P c
     (load : (access : MemoryAccess) (value : ℕ) (loads : Bool)
     → P (advancePc (writeGpr core (access .«register_index») (extendReadResult access value) .core)) (counterAfter loads counter))
     (store : P (advancePc core) counter) where
-  abbrev After : Accessed → Type 0
-  After a = P (a .core) (a .counter)
+  abbrev After : Emulated → Type 0
+  After emulated = (injection : AbortStep) → P (injection .core) (injection .counter) →
+      let step = abortDone (emulated .outcome) (emulated .counter) core injection in
+      P (step .core) (step .counter)
 
-  by-read : (result : MemoryReadResult) (loads : Bool) (access : MemoryAccess) → After (readDone result (counterAfter loads counter) access core counter)
-  by-read (read.Value value) loads access = load access value loads
-  by-read read.Fault loads access = same
+  unhandled-after : After (unhandled counter)
+  unhandled-after injection h = h
 
-  by-write : (result : MemoryWriteResult) → After (writeDone result core counter)
-  by-write write.Handled = store
-  by-write write.Fault = same
+  by-read : (result : MemoryReadResult) (loads : Bool) (access : MemoryAccess) → After (readDone result (counterAfter loads counter) access counter)
+  by-read (read.Value value) loads access injection h = load access value loads
+  by-read read.Fault loads access injection h = h
 
-  by-read-handler : (handler : MemoryHandler) (access : MemoryAccess) (offset : ℕ) → After (readThrough handler access offset core counter)
+  by-write : (result : MemoryWriteResult) → After (writeDone result counter)
+  by-write write.Handled injection h = store
+  by-write write.Fault injection h = h
+
+  by-read-handler : (handler : MemoryHandler) (access : MemoryAccess) (offset : ℕ) → After (readThrough handler access offset counter)
   unfolding readThrough readFilteredMmio
-  by-read-handler Absent access offset = same
+  by-read-handler Absent access offset = unhandled-after
   by-read-handler FilteredMmio access offset =
       let asked : MemoryReadAccess = record { ipa = access .ipa; offset = offset; width = access .width } in
       by-read (readFilteredMmio asked counter .result) (loadsCounter asked) access
 
-  by-write-handler : (handler : MemoryHandler) (access : MemoryAccess) (offset : ℕ) → After (writeThrough handler access offset core counter)
+  by-write-handler : (handler : MemoryHandler) (access : MemoryAccess) (offset rt : ℕ) → After (writeThrough handler access offset rt counter)
   unfolding writeThrough
-  by-write-handler Absent access offset = same
-  by-write-handler FilteredMmio access offset = by-write (writeFilteredMmio _)
+  by-write-handler Absent access offset rt = unhandled-after
+  by-write-handler FilteredMmio access offset rt = by-write (writeFilteredMmio _)
 
-  by-kind : (kind : MemoryAccessKind) (m : MemoryAccessHandlerMatch) (access : MemoryAccess) → After (accessIn kind m access core counter)
+  by-kind : (kind : MemoryAccessKind) (m : MemoryAccessHandlerMatch) (access : MemoryAccess) (rt : ℕ) → After (accessIn kind m access rt counter)
   unfolding accessIn
-  by-kind Read m access = by-read-handler (m .region .handler .read) access (m .offset)
-  by-kind Write m access = by-write-handler (m .region .handler .write) access (m .offset)
+  by-kind Read m access rt = by-read-handler (m .region .handler .read) access (m .offset)
+  by-kind Write m access rt = by-write-handler (m .region .handler .write) access (m .offset) rt
 
-  by-found : (found : RegionFound) (access : MemoryAccess) → After (accessFound found access core counter)
-  by-found Nothing access = same
-  by-found (Match m) access = by-kind (access .kind) m access
+  by-found : (found : RegionFound) (access : MemoryAccess) (rt : ℕ) → After (emulateAccess found access rt counter)
+  by-found Nothing access rt = unhandled-after
+  by-found (Match m) access rt = by-kind (access .kind) m access rt
 
   by-decoded : (decoded : Decoded) (regions : List MemoryAccessRegion) → After (accessDecoded decoded regions core counter)
-  by-decoded NoSyndrome regions = same
-  by-decoded (Access access) regions = by-found (findRegion regions (access .ipa)) access
-
-  by-outcome : (o : AccessOutcome) (accessed : Accessed) (injection : AbortStep) → After accessed → P (injection .core) (injection .counter)
-      → P (abortDone o accessed injection .core) (abortDone o accessed injection .counter)
-  by-outcome (Handled kind) accessed injection h k = h
-  by-outcome Unhandled accessed injection h k = k
+  by-decoded NoSyndrome regions = unhandled-after
+  by-decoded (Access access) regions = by-found (findRegion regions (access .ipa)) access _
 
   pub abort-all : (regions : List MemoryAccessRegion) (trap : TrapRegisters) → P (injected core trap) counter
       → P (handleDataAbort regions core counter trap .core) (handleDataAbort regions core counter trap .counter)
   unfolding handleDataAbort tryMemoryAccess injectDataAbort
   abort-all regions trap injection =
-      by-outcome (tryMemoryAccess regions core counter trap .outcome) (tryMemoryAccess regions core counter trap) (injectDataAbort core counter trap)
-      (by-decoded (decodeAccess (iss (trap .esr)) (trap .fipa) (trap .far)) regions)
+      by-decoded (decodeAccess (iss (trap .esr)) (trap .fipa) (trap .far)) regions (injectDataAbort core counter trap)
       (cond-all (λ (s : AbortStep). P (s .core) (s .counter)) (eqb (trap .vbar) 0) _ _ same injection)
 
 -- a data abort leaves what the core waits for

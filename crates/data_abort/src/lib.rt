@@ -1,11 +1,10 @@
 // RITM's src/hypervisor.rs, its data aborts: the access is handled, or the guest gets the abort.
 ghost use mathlib.Core.Path.{_≡_};
 ghost use Rattle.lists.specs.Lists.{held};
-ghost use Rattle.exceptions.specs.Registers.{readGpr, readValue};
-ghost use Rattle.data_abort.specs.DataAbort.{abortNumber, unhandled, readThrough, writeThrough, accessIn, tryMemoryAccess, withEc, injectDataAbort, handleDataAbort};
+ghost use Rattle.memory_access.specs.Syndrome.{decodeAccess};
+ghost use Rattle.data_abort.specs.DataAbort.{iss, abortNumber, unhandled, readThrough, writeThrough, accessIn, emulateAccess, tryMemoryAccess, withEc, injectionOf, injectDataAbort, handleDataAbort};
 use exceptions::Core;
 use exceptions::FaultRegisters;
-use exceptions::GprRead;
 use memory_access::Decoded;
 use memory_access::Fipa;
 use memory_access::MemoryAccess;
@@ -55,6 +54,20 @@ impl AbortAnswer {
     }
 }
 
+// What comes of the access that a data abort describes.
+pub enum AccessOutcome {
+    // A load: its register, and what that takes.
+    Loaded(usize, u64),
+    Stored,
+    Unhandled,
+}
+
+// What comes of it, and the counter then.
+pub struct Emulated {
+    pub outcome: AccessOutcome,
+    pub counter: u64,
+}
+
 // A data abort of one core, by the regions that are held.
 pub fn handle_data_abort(
     regions: [MemoryAccessRegion; 16],
@@ -65,43 +78,35 @@ pub fn handle_data_abort(
 ) -> AbortStep
     ensures { λ r. ⌜ r ≡ handleDataAbort (held 16 «region_count» regions) core counter trap ⌝ }
 {
-    let access = try_memory_access_handler(regions, region_count, core, counter, trap);
-    let outcome = access.outcome;
-    let next = access.core;
+    let emulated = try_memory_access_handler(regions, region_count, core, counter, trap);
+    let outcome = emulated.outcome;
     match outcome {
-        AccessOutcome::Handled(kind) => AbortStep {
-            answer: AbortAnswer::Handled(kind),
-            core: next,
-            counter: access.counter,
+        AccessOutcome::Loaded(register_index, value) => {
+            let written = core.write_gpr(register_index, value);
+            let loaded = written.core;
+            AbortStep {
+                answer: AbortAnswer::Handled(MemoryAccessKind::Read),
+                core: loaded.advance_pc(),
+                counter: emulated.counter,
+            }
+        }
+        AccessOutcome::Stored => AbortStep {
+            answer: AbortAnswer::Handled(MemoryAccessKind::Write),
+            core: core.advance_pc(),
+            counter: emulated.counter,
         },
         AccessOutcome::Unhandled => inject_data_abort(core, counter, trap),
     }
 }
 
-// What comes of the access that a data abort describes.
-enum AccessOutcome {
-    Handled(MemoryAccessKind),
-    Unhandled,
-}
-
-struct Accessed {
-    outcome: AccessOutcome,
-    core: Core,
-    counter: u64,
-}
-
-fn unhandled(core: Core, counter: u64) -> Accessed
-    ensures { λ r. ⌜ r ≡ unhandled core counter ⌝ }
+fn unhandled(counter: u64) -> Emulated
+    ensures { λ r. ⌜ r ≡ unhandled counter ⌝ }
 {
-    Accessed {
+    Emulated {
         outcome: AccessOutcome::Unhandled,
-        core,
         counter,
     }
 }
-
-// ESR_EL2's ISS, bits 24:0 (Arm DDI 0601).
-const ESR_ISS_MASK: u64 = 0x1FF_FFFF;
 
 fn try_memory_access_handler(
     regions: [MemoryAccessRegion; 16],
@@ -109,20 +114,39 @@ fn try_memory_access_handler(
     core: Core,
     counter: u64,
     trap: TrapRegisters,
-) -> Accessed
+) -> Emulated
     ensures { λ r. ⌜ r ≡ tryMemoryAccess (held 16 «region_count» regions) core counter trap ⌝ }
+{
+    match decode_abort(trap) {
+        Decoded::Access(access) => {
+            let ipa = access.ipa;
+            let found = stage2_range::find_region(regions, region_count, ipa);
+            let read = core.read_gpr(access.register_index);
+            emulate_access(found, access, read.value(), counter)
+        }
+        Decoded::NoSyndrome => unhandled(counter),
+    }
+}
+
+// ESR_EL2's ISS, bits 24:0 (Arm DDI 0601).
+const ESR_ISS_MASK: u64 = 0x1FF_FFFF;
+
+// The access that a data abort's syndrome describes.
+pub fn decode_abort(trap: TrapRegisters) -> Decoded
+    ensures { λ r. ⌜ r ≡ decodeAccess (iss (trap .esr)) (trap .fipa) (trap .far) ⌝ }
 {
     let iss = (trap.esr & ESR_ISS_MASK) as u32;
     let fipa = trap.fipa;
-    match MemoryAccess::decode(iss, fipa, trap.far) {
-        Decoded::Access(access) => {
-            let ipa = access.ipa;
-            match stage2_range::find_region(regions, region_count, ipa) {
-                RegionFound::Match(found) => access_in(found, access, core, counter),
-                RegionFound::Nothing => unhandled(core, counter),
-            }
-        }
-        Decoded::NoSyndrome => unhandled(core, counter),
+    MemoryAccess::decode(iss, fipa, trap.far)
+}
+
+// What the access comes to, by the region that has its address and by what its register holds.
+pub fn emulate_access(found: RegionFound, access: MemoryAccess, rt: u64, counter: u64) -> Emulated
+    ensures { λ r. ⌜ r ≡ emulateAccess found access rt counter ⌝ }
+{
+    match found {
+        RegionFound::Match(m) => access_in(m, access, rt, counter),
+        RegionFound::Nothing => unhandled(counter),
     }
 }
 
@@ -130,10 +154,10 @@ fn try_memory_access_handler(
 fn access_in(
     found: MemoryAccessHandlerMatch,
     access: MemoryAccess,
-    core: Core,
+    rt: u64,
     counter: u64,
-) -> Accessed
-    ensures { λ r. ⌜ r ≡ accessIn (access .kind) found access core counter ⌝ }
+) -> Emulated
+    ensures { λ r. ⌜ r ≡ accessIn (access .kind) found access rt counter ⌝ }
 {
     let region = found.region;
     let handler = region.handler;
@@ -141,45 +165,34 @@ fn access_in(
     match kind {
         MemoryAccessKind::Read => {
             let read = handler.read;
-            read_through(read, access, found.offset, core, counter)
+            read_through(read, access, found.offset, counter)
         }
         MemoryAccessKind::Write => {
             let write = handler.write;
-            write_through(write, access, found.offset, core, counter)
+            write_through(write, access, found.offset, rt, counter)
         }
     }
 }
 
-fn read_through(
-    handler: MemoryHandler,
-    access: MemoryAccess,
-    offset: u64,
-    core: Core,
-    counter: u64,
-) -> Accessed
-    ensures { λ r. ⌜ r ≡ readThrough handler access offset core counter ⌝ }
+fn read_through(handler: MemoryHandler, access: MemoryAccess, offset: u64, counter: u64) -> Emulated
+    ensures { λ r. ⌜ r ≡ readThrough handler access offset counter ⌝ }
 {
     let ipa = access.ipa;
     let width = access.width;
     match handler {
-        MemoryHandler::Absent => unhandled(core, counter),
+        MemoryHandler::Absent => unhandled(counter),
         MemoryHandler::FilteredMmio => {
             let read = qemu::read_filtered_mmio(MemoryReadAccess { ipa, offset, width }, counter);
             let result = read.result;
             match result {
-                MemoryReadResult::Value(value) => {
-                    let written = core.write_gpr(
+                MemoryReadResult::Value(value) => Emulated {
+                    outcome: AccessOutcome::Loaded(
                         access.register_index,
                         access.extend_read_result(value),
-                    );
-                    let next = written.core;
-                    Accessed {
-                        outcome: AccessOutcome::Handled(MemoryAccessKind::Read),
-                        core: next.advance_pc(),
-                        counter: read.counter,
-                    }
-                }
-                MemoryReadResult::Fault => unhandled(core, counter),
+                    ),
+                    counter: read.counter,
+                },
+                MemoryReadResult::Fault => unhandled(counter),
             }
         }
     }
@@ -189,17 +202,17 @@ fn write_through(
     handler: MemoryHandler,
     access: MemoryAccess,
     offset: u64,
-    core: Core,
+    rt: u64,
     counter: u64,
-) -> Accessed
-    ensures { λ r. ⌜ r ≡ writeThrough handler access offset core counter ⌝ }
+) -> Emulated
+    ensures { λ r. ⌜ r ≡ writeThrough handler access offset rt counter ⌝ }
 {
     let ipa = access.ipa;
     let width = access.width;
     match handler {
-        MemoryHandler::Absent => unhandled(core, counter),
+        MemoryHandler::Absent => unhandled(counter),
         MemoryHandler::FilteredMmio => {
-            let value = access.store_value(register_value(core, access.register_index));
+            let value = access.store_value(rt);
             let write = MemoryWriteAccess {
                 ipa,
                 offset,
@@ -207,25 +220,21 @@ fn write_through(
                 value,
             };
             match qemu::write_filtered_mmio(write) {
-                MemoryWriteResult::Handled => Accessed {
-                    outcome: AccessOutcome::Handled(MemoryAccessKind::Write),
-                    core: core.advance_pc(),
+                MemoryWriteResult::Handled => Emulated {
+                    outcome: AccessOutcome::Stored,
                     counter,
                 },
-                MemoryWriteResult::Fault => unhandled(core, counter),
+                MemoryWriteResult::Fault => unhandled(counter),
             }
         }
     }
 }
 
-// A register's value. Decode names none above 31, which would read as 0 here.
-fn register_value(core: Core, index: usize) -> u64
-    ensures { λ r. ⌜ r ≡ readValue (readGpr core index) ⌝ }
-{
-    match core.read_gpr(index) {
-        GprRead::Value(value) => value,
-        GprRead::NoSuchRegister => 0,
-    }
+// What an injected abort puts into a core: where the guest goes on, and its EL1 registers.
+pub struct Injection {
+    pub elr: u64,
+    pub spsr: u64,
+    pub el1: FaultRegisters,
 }
 
 // The vector "Current EL with SPx, Synchronous" stands this far above VBAR_EL1 (Arm DDI 0487).
@@ -233,6 +242,23 @@ const SYNC_SPX_OFFSET: u64 = 0x200;
 
 // PSTATE on entry to it: D, A, I and F set, EL1h.
 const SPSR_MASKED_EL1H: u64 = 0x3C5;
+
+// The injection of an abort that was taken at `elr` with `spsr`.
+pub fn injection_of(elr: u64, spsr: u64, trap: TrapRegisters) -> Injection
+    ensures { λ r. ⌜ r ≡ injectionOf elr spsr trap ⌝ }
+{
+    let el1 = FaultRegisters {
+        elr,
+        spsr,
+        far: trap.far,
+        esr: same_el_syndrome(trap.esr),
+    };
+    Injection {
+        elr: std::num::wrapping_add_u64(trap.vbar, SYNC_SPX_OFFSET),
+        spsr: SPSR_MASKED_EL1H,
+        el1,
+    }
+}
 
 fn inject_data_abort(core: Core, counter: u64, trap: TrapRegisters) -> AbortStep
     ensures { λ r. ⌜ r ≡ injectDataAbort core counter trap ⌝ }
@@ -246,16 +272,12 @@ fn inject_data_abort(core: Core, counter: u64, trap: TrapRegisters) -> AbortStep
     }
     let x = core.x;
     let wait = core.wait;
-    let el1 = FaultRegisters {
-        elr: core.elr,
-        spsr: core.spsr,
-        far: trap.far,
-        esr: same_el_syndrome(trap.esr),
-    };
+    let to = injection_of(core.elr, core.spsr, trap);
+    let el1 = to.el1;
     let next = Core {
         x,
-        elr: std::num::wrapping_add_u64(trap.vbar, SYNC_SPX_OFFSET),
-        spsr: SPSR_MASKED_EL1H,
+        elr: to.elr,
+        spsr: to.spsr,
         el1,
         wait,
     };

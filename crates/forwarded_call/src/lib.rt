@@ -63,7 +63,7 @@ pub fn forward_call(core: Core, conduit: Conduit) -> ForwardedCall
 }
 
 // The firmware answers PSCI calls, of either register width, and the platform all others.
-fn recipient_of(function_id: u64) -> Recipient
+pub fn recipient_of(function_id: u64) -> Recipient
     ensures { λ r. ⌜ r ≡ recipientOf «function_id» ⌝ }
 {
     match function_id {
@@ -72,7 +72,8 @@ fn recipient_of(function_id: u64) -> Recipient
     }
 }
 
-fn registers_for(recipient: Recipient) -> usize
+// How many registers a call hands to its recipient.
+pub fn registers_for(recipient: Recipient) -> usize
     ensures { λ r. ⌜ r ≡ registersFor recipient ⌝ }
 {
     match recipient {

@@ -17,7 +17,7 @@ use Rattle.data_abort.specs.DataAbort.{handleDataAbort}
 use Rattle.forwarded_call.specs.ForwardedCall.{waits, forwardCall}
 use Rattle.hypervisor.specs.declared.TrapStep.{TrapStep}
 use Rattle.hypervisor.specs.Answers.{answered, refused}
-use Rattle.hypervisor.specs.Trap.{ec, classOf, exceptionClass, isDataAbort, byClass, handleSyncLower}
+use Rattle.hypervisor.specs.Trap.{ec, classOf, exceptionClass, byClass, handleSyncLower}
 
 -- what holds of each class where its EC is the one, holds of the class of an EC
 pub by-class : (P : ExceptionClass → Type 0) (class : ℕ) → (class ≡ 0x16 → P HvcTrappedInAArch64) → (class ≡ 0x17 → P SmcTrappedInAArch64)
@@ -38,30 +38,6 @@ by-class P class hvc smc abort other = is-hvc (eqb class 0x16) refl
         → P (cond b HvcTrappedInAArch64 (cond (eqb class 0x17) SmcTrappedInAArch64 (cond (eqb class 0x24) DataAbortLowerEl Unknown)))
     is-hvc true e = hvc (eqb-true class 0x16 e)
     is-hvc false e = is-smc e (eqb class 0x17) refl
-
--- the class of a data abort
-abbrev pub isAbort : ExceptionClass → Bool
-isAbort HvcTrappedInAArch64 = false
-isAbort SmcTrappedInAArch64 = false
-isAbort DataAbortLowerEl = true
-isAbort Unknown = false
-
--- a data abort, by its class
-pub abort-class : (esr : ℕ) → isAbort (exceptionClass esr) ≡ isDataAbort esr
-unfolding exceptionClass isDataAbort
-abort-class esr = by-class (λ class. isAbort class ≡ eqb (ec esr) 0x24) (ec esr) (λ e. rw e) (λ e. rw e) (λ e. rw e) (λ h s a. sym a)
-
--- a trap that is no data abort does not depend on the regions
-pub other-regions : (regions regions′ : List MemoryAccessRegion) (core : Core) (counter : ℕ) (trap : TrapRegisters)
-    → isDataAbort (trap .esr) ≡ false → handleSyncLower regions core counter trap ≡ handleSyncLower regions′ core counter trap
-unfolding handleSyncLower byClass
-other-regions regions regions′ core counter trap h = ap (cond (waits (core .wait)) (refused _ core counter)) (go (exceptionClass (trap .esr)) (abort-class (trap .esr) ∙ h))
-  where
-    go : (class : ExceptionClass) → isAbort class ≡ false → byClass class regions core counter trap ≡ byClass class regions′ core counter trap
-    go HvcTrappedInAArch64 e = refl
-    go SmcTrappedInAArch64 e = refl
-    go DataAbortLowerEl e = absurd (true≢false e)
-    go Unknown e = refl
 
 -- what holds of the core and the counter as they were, after a forwarded call and after a data abort, holds after a trap
 pub trap-all : (P : Core → ℕ → Type 0) (regions : List MemoryAccessRegion) (core : Core) (counter : ℕ) (trap : TrapRegisters) → P core counter

@@ -1,6 +1,6 @@
 -- The trap of one core (document 01, "Trap"). Assumes nothing.
 use Prim.Native.Nat.{ℕ}
-use mathlib.Core.Bool.{Bool, cond}
+use mathlib.Core.Bool.{cond}
 use mathlib.Core.List.{List}
 use lib.Dec.{eqb}
 use Rattle.memory_access.specs.Syndrome.{bitsAt}
@@ -30,10 +30,6 @@ classOf ec =
 
 unfoldable pub exceptionClass : ℕ → ExceptionClass
 exceptionClass esr = classOf (ec esr)
-
--- "EC 0x24"
-unfoldable pub isDataAbort : ℕ → Bool
-isDataAbort esr = eqb (ec esr) 0x24
 
 -- dispatch by the exception class; 12: "EC not 0x16, 0x17, 0x24"
 unfoldable pub byClass : ExceptionClass → List MemoryAccessRegion → Core → ℕ → TrapRegisters → TrapStep

@@ -4,7 +4,7 @@ ghost use Prim.Native.Nat.{_<_};
 ghost use lib.ListN.{replicate};
 ghost use Rattle.lists.specs.Lists.{held};
 ghost use Rattle.hypervisor.specs.Answers.{errorNumber, coreNumber, trapNumber, trapKind, abortAnswer, replyAnswer, answered, refused, forwarded, refusedCore};
-ghost use Rattle.hypervisor.specs.Trap.{exceptionClass, isDataAbort, byClass, handleSyncLower};
+ghost use Rattle.hypervisor.specs.Trap.{exceptionClass, byClass, handleSyncLower};
 ghost use Rattle.hypervisor.specs.Cores.{freshCores, saveCore, noSuchCore, placed, saveOn, replyOn, trapOn};
 use data_abort::AbortAnswer;
 use data_abort::TrapRegisters;
@@ -206,14 +206,16 @@ const ESR_EC_SHIFT: u64 = 26;
 
 const ESR_EC_MASK: u64 = 0x3F;
 
-enum ExceptionClass {
+// The class of an exception.
+pub enum ExceptionClass {
     HvcTrappedInAArch64,
     SmcTrappedInAArch64,
     DataAbortLowerEl,
     Unknown,
 }
 
-fn exception_class(esr: u64) -> ExceptionClass
+// The class that a syndrome names.
+pub fn exception_class(esr: u64) -> ExceptionClass
     ensures { λ r. ⌜ r ≡ exceptionClass esr ⌝ }
 {
     match (esr >> ESR_EC_SHIFT) & ESR_EC_MASK {
@@ -221,18 +223,6 @@ fn exception_class(esr: u64) -> ExceptionClass
         0x17 => ExceptionClass::SmcTrappedInAArch64,
         0x24 => ExceptionClass::DataAbortLowerEl,
         _ => ExceptionClass::Unknown,
-    }
-}
-
-// Whether a trap is a data abort, the only one that depends on the regions.
-pub fn is_data_abort(esr: u64) -> bool
-    ensures { λ r. ⌜ r ≡ isDataAbort esr ⌝ }
-{
-    match exception_class(esr) {
-        ExceptionClass::HvcTrappedInAArch64 => false,
-        ExceptionClass::SmcTrappedInAArch64 => false,
-        ExceptionClass::DataAbortLowerEl => true,
-        ExceptionClass::Unknown => false,
     }
 }
 

@@ -1,3 +1,4 @@
 -- Laws of the suspend map in lent bytes.
 pub mod Records
 pub mod States
+pub mod InPlace

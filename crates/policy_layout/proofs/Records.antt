@@ -17,6 +17,10 @@ use Rattle.stage2_range.specs.Registry.{handlerNumber}
 use Rattle.stage2.specs.Policy.{handlers, handlerOf}
 use Rattle.policy_layout.specs.Layout.{rangeAt, withRange, regionAt, withRegion}
 
+-- one of the thirty-two ranges
+pub range-of : (policy : List ℕ) (k : ℕ) (d : Stage2Range) → k < 32 → getD (each (rangeAt policy) 0 32) k d ≡ rangeAt policy k
+range-of policy k d h = getD-each (rangeAt policy) 0 32 k d h ∙ ap (rangeAt policy) (zero-add k)
+
 -- one of the sixteen regions
 pub region-of : (policy : List ℕ) (k : ℕ) (d : MemoryAccessRegion) → k < 16 → getD (each (regionAt policy) 0 16) k d ≡ regionAt policy k
 region-of policy k d h = getD-each (regionAt policy) 0 16 k d h ∙ ap (regionAt policy) (zero-add k)

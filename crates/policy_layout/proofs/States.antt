@@ -1,10 +1,10 @@
 -- Laws of a whole policy in lent bytes: zero bytes are the fresh one, and what was stored is read back. Assumes nothing.
 use Prim.Native.Nat.{ℕ, _+_, _*_, _≤_}
-use mathlib.Core.Path.{_≡_, _∙_}
+use mathlib.Core.Path.{_≡_, refl, _∙_}
 use mathlib.Core.List.{List, [], _∷_}
 use native.Mathlib.Omega.{arith}
 use lib.ListN.{length, replicate}
-use Rattle.words.specs.Words.{storeEach, withWords, FitsWord, Lent}
+use Rattle.words.specs.Words.{wordAt, storeEach, withWords, FitsWord, Lent}
 use Rattle.words.proofs.RoundTrip.{Every, store-stays, store-keeps, counted, counted-back, length-words, words-beside, lent-words}
 use Rattle.words.proofs.Records.{record-kept, each-constant, zero-word, zero-record, array-kept}
 use Rattle.stage2_range.specs.declared.Stage2Range.{Stage2Range}
@@ -13,6 +13,15 @@ use Rattle.stage2.specs.declared.Policy.{Policy}
 use Rattle.stage2.specs.Policy.{freshPolicy}
 use Rattle.policy_layout.specs.Layout.{rangeAt, withRange, regionAt, withRegion, policyAt, withAllowed, withRegions}
 use Rattle.policy_layout.proofs.Records.{RangeFits, RegionFits, rangeFrom, regionFrom, rangeWords, regionWords, range-in, region-in, range-back, region-back, range-beside, region-beside}
+
+-- the counts of a policy, as the bytes say
+pub allowed-count : (b : List ℕ) → policyAt b .«allowed_count» ≡ wordAt b 128
+unfolding policyAt
+allowed-count b = refl
+
+pub region-count : (b : List ℕ) → policyAt b .«region_count» ≡ wordAt b 209
+unfolding policyAt
+region-count b = refl
 
 -- zero bytes are the fresh policy
 pub fresh-policy : policyAt (replicate 1680 0) ≡ freshPolicy

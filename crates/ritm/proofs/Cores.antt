@@ -1,39 +1,29 @@
 -- Laws of the calls on a core: above 7 there is none, and one of the eight is stepped by itself. Assumes nothing.
 use Prim.Native.Nat.{ℕ, _<_, _≤_}
-use mathlib.Core.Path.{_≡_, refl, sym, ap, ap₂, _∙_}
-use mathlib.Core.List.{List, [], _∷_}
+use mathlib.Core.Path.{_≡_, refl, sym, ap, _∙_}
+use mathlib.Core.Bool.{Bool, true, false}
+use mathlib.Core.List.{List, []}
+use lib.Dec.{eqb, ltb}
 use lib.IntN.{ℤ}
 use native.Mathlib.Omega.{arith}
-use borrow.Author.Tests.{ne-eqb, lt-ltb, le-ltb}
-use lib.ListN.{getD, set, replicate}
-use lib.Seq.{getD-set-same}
+use borrow.Author.Tests.{ne-eqb, lt-ltb, le-ltb, ltb-true, ltb-false}
+use lib.ListN.{getD}
+use Rattle.lists.proofs.Laws.{cond-same}
 use Rattle.exceptions.specs.declared.Core.{Core}
-use Rattle.exceptions.specs.declared.GprWritten.{GprWritten}
 use Rattle.exceptions.specs.Registers.{freshCore, writeGpr, writeNumber}
+use Rattle.exceptions.proofs.Laws.{within-accepted}
 use Rattle.forwarded_call.specs.declared.ReplyAnswer.{ReplyAnswer}
 use Rattle.forwarded_call.specs.declared.ReplyAnswer.the-variants as reply
 use Rattle.forwarded_call.specs.declared.Replied.{Replied}
 use Rattle.forwarded_call.specs.ForwardedCall.{replyNumber, replyCore}
-use Rattle.data_abort.specs.declared.TrapRegisters.{TrapRegisters}
-use Rattle.stage2.specs.Policy.{regionsHeld}
 use Rattle.hypervisor.specs.declared.CoreStep.{CoreStep}
-use Rattle.hypervisor.specs.declared.TrapStep.{TrapStep}
-use Rattle.hypervisor.specs.Answers.{coreNumber, trapNumber, trapKind, replyAnswer}
-use Rattle.hypervisor.specs.Trap.{handleSyncLower}
-use Rattle.hypervisor.specs.Cores.{noCore, onCore, saveCore, saveOn, replyOn, replyStep, trapOn}
-use Rattle.words.specs.Words.{bytesOf, wordAt, wordsAt}
-use Rattle.policy_layout.specs.Layout.{policyAt}
-use Rattle.cores_layout.specs.Layout.{coresAt, withCore, counterAt, withCounter}
-use Rattle.cores_layout.proofs.Records.{core-of, length-cores}
-use Rattle.ritm.specs.Interface.{Left, unlessRefused, steppedCore, saveCall, replyCall, trapCall, writeCall}
-
--- one of the eight, whatever stands for a core past them
-pub same-core : (cores : List ℕ) (i : ℕ) → i < 8 → getD (coresAt cores) i noCore ≡ getD (coresAt cores) i freshCore
-same-core cores i h = core-of cores i noCore h ∙ sym (core-of cores i freshCore h)
-
--- the core that was put in its place
-replaced : (cores : List ℕ) (i : ℕ) (core : Core) → i < 8 → getD (set (coresAt cores) i core) i noCore ≡ core
-replaced cores i core h = getD-set-same (coresAt cores) i core noCore (omega (arith, length-cores cores))
+use Rattle.hypervisor.specs.Answers.{coreNumber, replyAnswer}
+use Rattle.hypervisor.specs.Cores.{onCore, saveCore, saveOn, replyOn, replyStep}
+use Rattle.words.specs.Words.{wordAt, wordsAt, Bytes}
+use Rattle.cores_layout.specs.Layout.{coresAt, withCore}
+use Rattle.cores_layout.proofs.InPlace.{gpr-kept}
+use Rattle.lent_trap.proofs.Laws.{same-core, replaced}
+use Rattle.ritm.specs.Interface.{Left, unlessRefused, steppedCore, saveCall, replyCall, writeCall}
 
 -- what a step of one core leaves
 abbrev pub steppedOne : List ℕ → ℕ → CoreStep → Left
@@ -50,32 +40,6 @@ pub step-one : (cores : List ℕ) (i : ℕ) (step : Core → CoreStep) → i ≤
     → steppedCore cores i (onCore (coresAt cores) i step) ≡ steppedOne cores i (step (getD (coresAt cores) i freshCore))
 unfolding steppedCore onCore
 step-one cores i step h = rw (le-ltb 7 i h, same-core cores i (omega arith), replaced cores i (step (getD (coresAt cores) i freshCore) .core) (omega arith))
-
--- what a trap of one core leaves
-abbrev pub trappedOne : List ℕ → ℕ → TrapStep → Left
-trappedOne cores i step =
-    let number = trapNumber (step .answer) in
-    record {
-      number = number;
-      state = unlessRefused number cores (withCounter (withCore cores i (step .core)) (step .counter));
-      result = bytesOf (trapKind (step .answer) ∷ step .values);
-    }
-
-module _ (policy cores : List ℕ) (i : ℕ) (trap : TrapRegisters) where
-  pub trap-none : 7 < i → trapCall policy cores i trap ≡ record { number = 10; state = cores; result = bytesOf (0 ∷ replicate 18 0) }
-  unfolding trapCall trapOn
-  trap-none h = rw (lt-ltb 7 i h)
-
-  pub trap-one : i ≤ 7
-      → trapCall policy cores i trap ≡ trappedOne cores i (handleSyncLower (regionsHeld (policyAt policy)) (getD (coresAt cores) i freshCore) (counterAt cores) trap)
-  unfolding trapCall trapOn
-  trap-one h = rw (le-ltb 7 i h, same-core cores i (omega arith), replaced cores i (handleSyncLower (regionsHeld (policyAt policy)) (getD (coresAt cores) i freshCore) (counterAt cores) trap .core) (omega arith))
-
-  -- the same, by what the code reads and calls: the core, the counter, the step
-  pub trap-by : (core : Core) (counter : ℕ) (step : TrapStep) → i ≤ 7 → core ≡ getD (coresAt cores) i freshCore → counter ≡ counterAt cores
-      → step ≡ handleSyncLower (regionsHeld (policyAt policy)) core counter trap → trapCall policy cores i trap ≡ trappedOne cores i step
-  trap-by core counter step h c n s =
-      trap-one h ∙ ap (trappedOne cores i) (sym (s ∙ ap₂ (λ (one : Core) (k : ℕ). handleSyncLower (regionsHeld (policyAt policy)) one k trap) c n))
 
 -- A call's state where it is refused, and where it is accepted.
 module _ (number : ℕ) (before after : List ℕ) where
@@ -109,7 +73,7 @@ reply-one cores i kind values error h =
     stepLeft : List ℕ → ℕ → ℕ → Core → Left
     stepLeft cores i n core = record { number = n; state = unlessRefused n cores (withCore cores i core); result = [] }
 
--- The same two calls and a write, by what the code reads and calls: the core, and the step.
+-- The same two calls, by what the code reads and calls: the core, and the step.
 pub save-by : (cores registers : List ℕ) (i : ℕ) (x : List ℕ) (elr spsr : ℕ) (core : Core) (step : CoreStep) → i ≤ 7 → x ≡ wordsAt registers 0 31 → elr ≡ wordAt registers 31
     → spsr ≡ wordAt registers 32 → core ≡ getD (coresAt cores) i freshCore → step ≡ saveCore core x elr spsr → saveCall cores i registers ≡ steppedOne cores i step
 unfolding saveCall saveOn
@@ -121,13 +85,21 @@ pub reply-by : (cores values : List ℕ) (i kind : ℕ) (error : ℤ) (held : Li
     → core ≡ getD (coresAt cores) i freshCore → r ≡ replyCore core (record { kind = kind; values = held; error = error }) → replyCall cores i kind values error ≡ repliedOne cores i r
 reply-by cores values i kind error held core r h v c s = reply-one cores i kind values error h ∙ rw (s, c, v)
 
--- what a write to one core leaves
-abbrev pub writtenOne : List ℕ → ℕ → GprWritten → Left
-writtenOne cores i w =
-    let number = writeNumber (w .answer) in
-    record { number = number; state = unlessRefused number cores (withCore cores i (w .core)); result = [] }
-
-pub write-by : (cores : List ℕ) (i index value : ℕ) (core : Core) (w : GprWritten) → i ≤ 7 → core ≡ getD (coresAt cores) i freshCore → w ≡ writeGpr core index value
-    → writeCall cores i index value ≡ writtenOne cores i w
+-- What a write to one core leaves: a refusal stores the core as it stands, which changes nothing.
+pub write-one : (cores : List ℕ) (i index value : ℕ) → Bytes cores → i ≤ 7
+    → let w = writeGpr (getD (coresAt cores) i freshCore) index value in
+    writeCall cores i index value ≡ record { number = writeNumber (w .answer); state = withCore cores i (w .core); result = [] }
 unfolding writeCall
-write-by cores i index value core w h c s = rw (le-ltb 7 i h, same-core cores i (omega arith), s, c)
+write-one cores i index value bytes h = rw (le-ltb 7 i h, same-core cores i (omega arith)) (ap (λ (s : List ℕ). record { number = number; state = s; result = [] }) (go (ltb index 31) refl))
+  where
+    number : ℕ
+    number = writeNumber (writeGpr (getD (coresAt cores) i freshCore) index value .answer)
+
+    after : List ℕ
+    after = withCore cores i (writeGpr (getD (coresAt cores) i freshCore) index value .core)
+
+    go : (t : Bool) → ltb index 31 ≡ t → unlessRefused number cores after ≡ after
+    go true e = when-accepted number cores after (within-accepted (getD (coresAt cores) i freshCore) index value (omega (arith, ltb-true index 31 e)) .1)
+    go false e =
+        let same : cores ≡ after = rw (le-ltb 7 i h) at (gpr-kept cores i index value bytes (ltb-false index 31 e)) in
+        ap (unlessRefused number cores) (sym same) ∙ cond-same (eqb number 0) cores ∙ same

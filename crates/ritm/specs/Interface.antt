@@ -18,24 +18,15 @@ use Rattle.stage2_range.specs.Registry.{hasAddress, findRegion}
 use Rattle.stage2.specs.Policy.{regionsHeld, allowRange, handleRange}
 use Rattle.simple_map.specs.Map.{getItem, insertItem, insertNumber, removeItem}
 use Rattle.exceptions.specs.Registers.{readGpr, readNumber, readValue, writeGpr, writeNumber}
-use Rattle.data_abort.specs.declared.TrapRegisters.{TrapRegisters}
 use Rattle.hypervisor.specs.declared.CoresStep.{CoresStep}
-use Rattle.hypervisor.specs.Answers.{coreNumber, trapNumber, trapKind}
-use Rattle.hypervisor.specs.Cores.{noCore, saveOn, replyOn, trapOn}
+use Rattle.hypervisor.specs.Answers.{coreNumber}
+use Rattle.hypervisor.specs.Cores.{noCore, saveOn, replyOn}
 use Rattle.words.specs.Words.{wordAt, wordsAt, bytesOf}
+pub use Rattle.words.specs.Words.{Left, unlessRefused}
+unfoldable pub use Rattle.lent_trap.specs.LentTrap.{trapCall}
 use Rattle.policy_layout.specs.Layout.{policyAt, withAllowed, withRegions}
-use Rattle.cores_layout.specs.Layout.{coresAt, withCore, counterAt, withCounter}
+use Rattle.cores_layout.specs.Layout.{coresAt, withCore}
 use Rattle.map_layout.specs.Layout.{mapAt, withPlaces, entryWords}
-
--- What a call leaves: the number returned, "0 or the refusal's number", the state's bytes, and the result's, written whole.
-pub record Left : Type 0 where
-  pub number : ℕ
-  pub state : List ℕ
-  pub result : List ℕ
-
--- "A refusal .. all state is as before"
-abbrev pub unlessRefused : ℕ → List ℕ → List ℕ → List ℕ
-unlessRefused number before after = cond (eqb number 0) after before
 
 -- `ritm_allow_range`: the allowed ranges are written, and no byte of the regions
 unfoldable pub allowCall : List ℕ → ℕ → ℕ → ℕ → Left
@@ -89,17 +80,6 @@ saveCall cores i registers =
 unfoldable pub replyCall : List ℕ → ℕ → ℕ → List ℕ → ℤ → Left
 replyCall cores i kind values error =
     steppedCore cores i (replyOn (coresAt cores) i (record { kind = kind; values = wordsAt values 0 18; error = error }))
-
--- `ritm_trap`: the core's words and the counter are written; the result is the kind of the answer and its eighteen values
-unfoldable pub trapCall : List ℕ → List ℕ → ℕ → TrapRegisters → Left
-trapCall policy cores i trap =
-    let step = trapOn (policyAt policy) (coresAt cores) (counterAt cores) i trap in
-    let number = trapNumber (step .answer) in
-    record {
-      number = number;
-      state = unlessRefused number cores (withCounter (withCore cores i (getD (step .cores) i noCore)) (step .counter));
-      result = bytesOf (trapKind (step .answer) ∷ step .values);
-    }
 
 -- 10 "number above 7", else the number of a call on one of the eight
 abbrev pub onEight : ℕ → ℕ → ℕ

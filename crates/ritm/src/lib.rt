@@ -3,29 +3,25 @@
 ghost use mathlib.Core.Path.{_≡_};
 ghost use lib.ListN.{replicate};
 ghost use Rattle.hypervisor.specs.Cores.{freshCores};
-ghost use Rattle.hypervisor.specs.Trap.{handleSyncLower};
 ghost use Rattle.policy_layout.specs.Layout.{policyAt};
 ghost use Rattle.cores_layout.specs.Layout.{coresAt, counterAt};
 ghost use Rattle.map_layout.specs.Layout.{mapAt};
 ghost use Rattle.simple_map.specs.Map.{emptyMap};
-ghost use Rattle.stage2.specs.Policy.{freshPolicy, regionsHeld};
+ghost use Rattle.stage2.specs.Policy.{freshPolicy};
 ghost use Rattle.ritm.specs.Interface.{allowCall, handleCall, findCall, saveCall, replyCall, trapCall, readCall, writeCall, insertCall, getCall, removeCall, decodeCall, extendCall, alignDownCall, alignUpCall, bufferSize};
 use cores_layout::CORES_SIZE;
 use cores_layout::REGISTERS_SIZE;
 use cores_layout::TRAP_RESULT_SIZE;
 use cores_layout::VALUES_SIZE;
 use data_abort::TrapRegisters;
-use exceptions::Core;
 use forwarded_call::HvcReply;
 use hypervisor::CoreError;
-use hypervisor::TrapStep;
 use map_layout::MAP_SIZE;
 use memory_access::Decoded;
 use memory_access::Fipa;
 use memory_access::MemoryAccess;
 use policy_layout::POLICY_SIZE;
 use simple_map::SuspendCoreData;
-use stage2::Policy;
 use words::ONE_WORD;
 use words::SIX_WORDS;
 use words::THREE_WORDS;
@@ -71,16 +67,7 @@ pub extern "C" fn ritm_allow_range(
     ensures { λ r. ⌜ (r ≡ allowCall (now (policy .entry)) «base_ipa» size attributes .number)
         × (now (policy .exit) ≡ allowCall (now (policy .entry)) «base_ipa» size attributes .state) ⌝ }
 {
-    let built = policy_layout::get_policy(policy).allow_range(base_ipa, size, attributes);
-    let answer = built.answer;
-    let number = answer.number();
-    if number != 0 {
-        return number;
-    }
-    let next = built.policy;
-    let allowed = next.allowed;
-    policy_layout::put_allowed(policy, allowed, next.allowed_count);
-    0
+    policy_layout::allow_range(policy, base_ipa, size, attributes).number()
 }
 
 // Has the guest's accesses to a range handled: refusals 20, 1 to 4, 6, 8, 9.
@@ -95,16 +82,7 @@ pub extern "C" fn ritm_handle_range(
     ensures { λ r. ⌜ (r ≡ handleCall (now (policy .entry)) «base_ipa» size read write .number)
         × (now (policy .exit) ≡ handleCall (now (policy .entry)) «base_ipa» size read write .state) ⌝ }
 {
-    let built = policy_layout::get_policy(policy).handle_range(base_ipa, size, read, write);
-    let answer = built.answer;
-    let number = answer.number();
-    if number != 0 {
-        return number;
-    }
-    let next = built.policy;
-    let regions = next.regions;
-    policy_layout::put_regions(policy, regions, next.region_count);
-    0
+    policy_layout::handle_range(policy, base_ipa, size, read, write).number()
 }
 
 // The first region held that has the address: whether there is one, its place and the offset in it.
@@ -157,21 +135,6 @@ pub extern "C" fn ritm_save(
     0
 }
 
-// A trap of one core. The regions are read for a data abort only.
-fn trap_core(policy: &[u8; POLICY_SIZE], core: Core, counter: u64, trap: TrapRegisters) -> TrapStep
-    ensures { λ r. ⌜ r ≡ handleSyncLower (regionsHeld (policyAt (now (policy .entry)))) core counter trap ⌝ }
-{
-    if hypervisor::is_data_abort(trap.esr) {
-        let regions = policy_layout::get_regions(policy);
-        let count = policy_layout::get_region_count(policy);
-        hypervisor::handle_sync_lower(regions, count, core, counter, trap)
-    } else {
-        let fresh = Policy::new();
-        let regions = fresh.regions;
-        hypervisor::handle_sync_lower(regions, 0, core, counter, trap)
-    }
-}
-
 // Takes a core's trap: refusals 10 to 13. The result is the answer's kind and the values of a forwarded call.
 #[no_mangle]
 pub extern "C" fn ritm_trap(
@@ -188,10 +151,6 @@ pub extern "C" fn ritm_trap(
         × (now (cores .exit) ≡ trapCall (now (policy .entry)) (now (cores .entry)) core (record { esr = esr; fipa = record { 0 = fipa }; far = far; vbar = vbar }) .state)
         × (now (result .exit) ≡ trapCall (now (policy .entry)) (now (cores .entry)) core (record { esr = esr; fipa = record { 0 = fipa }; far = far; vbar = vbar }) .result) ⌝ }
 {
-    if LAST_CORE < core {
-        cores_layout::put_trap_result(result, 0, [0u64; 18]);
-        return CoreError::NoSuchCore.number();
-    }
     let fipa = Fipa(fipa);
     let trap = TrapRegisters {
         esr,
@@ -199,20 +158,7 @@ pub extern "C" fn ritm_trap(
         far,
         vbar,
     };
-    let one = cores_layout::get_core(cores, core);
-    let counter = cores_layout::get_counter(cores);
-    let step = trap_core(policy, one, counter, trap);
-    let answer = step.answer;
-    let values = step.values;
-    cores_layout::put_trap_result(result, answer.kind(), values);
-    let number = answer.number();
-    if number != 0 {
-        return number;
-    }
-    let after = step.core;
-    cores_layout::put_core(cores, core, after);
-    cores_layout::put_counter(cores, step.counter);
-    0
+    lent_trap::trap(policy, cores, core, trap, result)
 }
 
 // Gives a core the answer that it waits for: refusals 10, 14, 15.
@@ -262,7 +208,7 @@ pub extern "C" fn ritm_read_gpr(
         words::put_one_word(result, 0);
         return CoreError::NoSuchCore.number();
     }
-    let read = cores_layout::get_core(cores, core).read_gpr(index as usize);
+    let read = cores_layout::get_gpr(cores, core, index as usize);
     words::put_one_word(result, read.value());
     read.number()
 }
@@ -281,15 +227,9 @@ pub extern "C" fn ritm_write_gpr(
     if LAST_CORE < core {
         return CoreError::NoSuchCore.number();
     }
-    let written = cores_layout::get_core(cores, core).write_gpr(index as usize, value);
-    let answer = written.answer;
-    let number = answer.number();
-    if number != 0 {
-        return number;
-    }
-    let after = written.core;
-    cores_layout::put_core(cores, core, after);
-    0
+    // A refusal stores the core as it stands: of bytes, that changes nothing.
+    words::are_bytes(cores);
+    cores_layout::put_gpr(cores, core, index as usize, value).number()
 }
 
 // Holds an entry under a key, in place of the key's last one: refusal 16.
@@ -307,16 +247,7 @@ pub extern "C" fn ritm_insert(
         entry_point,
         context_id,
     };
-    let inserted = map_layout::get_map(map).insert(key, value);
-    let answer = inserted.answer;
-    let number = answer.number();
-    if number != 0 {
-        return number;
-    }
-    let next = inserted.map;
-    let items = next.items;
-    map_layout::put_places(map, items);
-    0
+    map_layout::insert_entry(map, key, value).number()
 }
 
 // The entry of a key: whether there is one, its entry point and its context id.
@@ -325,7 +256,7 @@ pub extern "C" fn ritm_get(map: &[u8; MAP_SIZE], key: u64, result: &mut [u8; THR
     ensures { λ r. ⌜ (r ≡ getCall (now (map .entry)) key .number)
         × (now (result .exit) ≡ getCall (now (map .entry)) key .result) ⌝ }
 {
-    map_layout::put_lookup(result, map_layout::get_map(map).get(key));
+    map_layout::put_lookup(result, map_layout::get_entry(map, key));
     0
 }
 
@@ -340,12 +271,7 @@ pub extern "C" fn ritm_remove(
         × (now (map .exit) ≡ removeCall (now (map .entry)) key .state)
         × (now (result .exit) ≡ removeCall (now (map .entry)) key .result) ⌝ }
 {
-    let removed = map_layout::get_map(map).remove(key);
-    let lookup = removed.removed;
-    map_layout::put_lookup(result, lookup);
-    let next = removed.map;
-    let items = next.items;
-    map_layout::put_places(map, items);
+    map_layout::put_lookup(result, map_layout::remove_entry(map, key));
     0
 }
 

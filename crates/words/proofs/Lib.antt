@@ -3,3 +3,4 @@ pub mod Words
 pub mod RoundTrip
 pub mod Records
 pub mod Every
+pub mod InPlace

@@ -72,3 +72,13 @@ Bytes b = (i : ℕ) → getD b i 0 < 256
 pub record Lent (n : ℕ) (b : List ℕ) : Type 0 where
   pub long : length b ≡ n
   pub bytes : Bytes b
+
+-- What a call on lent bytes leaves: the number returned, "0 or the refusal's number", the state's bytes, and the result's, written whole.
+pub record Left : Type 0 where
+  pub number : ℕ
+  pub state : List ℕ
+  pub result : List ℕ
+
+-- "A refusal .. all state is as before"
+abbrev pub unlessRefused : ℕ → List ℕ → List ℕ → List ℕ
+unlessRefused number before after = cond (eqb number 0) after before

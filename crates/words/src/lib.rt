@@ -4,7 +4,7 @@ ghost use mathlib.Core.List.{[], _∷_};
 ghost use Prim.Native.Nat.{_+_, _≤_};
 ghost use lib.ListN.{length, take, drop};
 ghost use lib.Seq.{sets};
-ghost use Rattle.words.specs.Words.{ofBytes, toBytes, wordAt, withWord, bytesOf, readCode, keptCode};
+ghost use Rattle.words.specs.Words.{ofBytes, toBytes, wordAt, withWord, bytesOf, readCode, keptCode, Bytes};
 
 // The lengths of results of so many words, in bytes.
 pub const ONE_WORD: usize = 8;
@@ -76,6 +76,14 @@ pub fn put_word(bytes: &mut [u8], place: usize, value: u64)
     if place < bytes.len() / 8 {
         put_eight(bytes, 8 * place, value);
     }
+}
+
+// Says to callers what the checker knows of a slice alone: lent bytes are below 256, so that a word stored where it was read changes nothing. It reads a
+// word that nobody uses, which compiles to nothing.
+pub fn are_bytes(bytes: &[u8]) -> u64
+    ensures { λ _. ⌜ Bytes (now (bytes .entry)) ⌝ }
+{
+    get_word(bytes, 0)
 }
 
 // A word as one of `limit` codes: any other word reads as 0.

@@ -9,23 +9,50 @@ try-memory-access-handler-requires c κs = search needs
 enum-known-outcome : tie.Need-enum-known-outcome
 enum-known-outcome c = search needs
 
+write-gpr-requires : tie.Need-write-gpr-requires
+write-gpr-requires c κs = search needs
+
+advance-pc-requires : tie.Need-advance-pc-requires
+advance-pc-requires c κs = search needs
+
 enum-told : tie.Need-enum-told
 enum-told c = search needs
+
+advance-pc-requires-2 : tie.Need-advance-pc-requires-2
+advance-pc-requires-2 c κs = search needs
+
+enum-told-2 : tie.Need-enum-told-2
+enum-told-2 c = search needs
 
 inject-data-abort-requires : tie.Need-inject-data-abort-requires
 inject-data-abort-requires c κs = search needs
 
 returns : tie.Need-returns
 unfolding handleDataAbort
-returns c = rw (← c .before .before .before .before .try-memory-access-handler .ensures, c .before .outcome .given .1)
+returns c =
+    rw (
+      c .advance-pc .ensures,
+      c .before .before .write-gpr .ensures,
+      ← c .before .before .before .before .before .before .try-memory-access-handler .ensures,
+      c .before .before .before .before .outcome .given .1,
+    )
 
 returns-2 : tie.Need-returns-2
 unfolding handleDataAbort
 returns-2 c =
     rw (
-      c .inject-data-abort .ensures,
-      ← c .before .before .before .before .try-memory-access-handler .ensures,
+      c .advance-pc2 .ensures,
+      ← c .before .before .before .try-memory-access-handler .ensures,
       c .before .enum-told .given .1,
+    )
+
+returns-3 : tie.Need-returns-3
+unfolding handleDataAbort
+returns-3 c =
+    rw (
+      c .inject-data-abort .ensures,
+      ← c .before .before .before .try-memory-access-handler .ensures,
+      c .before .enum-told2 .given .1,
     )
 
 pub handle-data-abort-spec : {M : Type 1} → statement M
@@ -34,7 +61,12 @@ handle-data-abort-spec =
     (tie.spec
     try-memory-access-handler-requires
     enum-known-outcome
+    write-gpr-requires
+    advance-pc-requires
     enum-told
+    advance-pc-requires-2
+    enum-told-2
     inject-data-abort-requires
     returns
-    returns-2)
+    returns-2
+    returns-3)

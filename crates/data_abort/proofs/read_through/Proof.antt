@@ -21,12 +21,6 @@ enum-known-result c = search needs
 extend-read-result-requires : tie.Need-extend-read-result-requires
 extend-read-result-requires c κs = search needs
 
-write-gpr-requires : tie.Need-write-gpr-requires
-write-gpr-requires c κs = search needs
-
-advance-pc-requires : tie.Need-advance-pc-requires
-advance-pc-requires c κs = search needs
-
 enum-told-3 : tie.Need-enum-told-3
 enum-told-3 c = search needs
 
@@ -40,14 +34,11 @@ returns c = rw (c .unhandled .ensures, c .before .enum-told .given .1)
 returns-2 : tie.Need-returns-2
 unfolding readThrough
 returns-2 c =
-    let read = c .before .before .before .before .before .before .before .read-filtered-mmio in
     rw (
-      c .before .before .before .before .before .before .before .before .enum-told2 .given .1,
-      ← read .ensures,
-      c .before .before .before .before .before .result .given .1,
-      c .advance-pc .ensures,
-      c .before .before .write-gpr .ensures,
-      c .before .before .before .extend-read-result .ensures,
+      c .before .before .before .before .before .enum-told2 .given .1,
+      ← c .before .before .before .before .read-filtered-mmio .ensures,
+      c .before .before .result .given .1,
+      c .extend-read-result .ensures,
     )
 
 returns-3 : tie.Need-returns-3
@@ -70,8 +61,6 @@ read-through-spec =
     read-filtered-mmio-requires
     enum-known-result
     extend-read-result-requires
-    write-gpr-requires
-    advance-pc-requires
     enum-told-3
     unhandled-requires-2
     returns

@@ -1,6 +1,5 @@
 use mathlib.Core.Path.{_≡_}
 use Rattle.memory_access.specs.Transfer.{storeValue}
-use Rattle.exceptions.specs.Registers.{readGpr, readValue}
 use Rattle.qemu.specs.FilteredMmio.{writeFilteredMmio}
 use Rattle.data_abort.specs.DataAbort.{writeThrough}
 use borrow.Author.Needs.{needs}
@@ -9,11 +8,10 @@ use Rattle.data_abort.proofs.write_through.Tie as tie
 
 -- what the page answers to the store
 stored : (c : tie.After-write-filtered-mmio) →
-    let a = c .before .before .before .before .before .before .args in
-    let value = storeValue (a .access) (readValue (readGpr (a .core) (a .access .«register_index»))) in
+    let a = c .before .before .before .before .before .args in
     c .write-filtered-mmio .result
-    ≡ writeFilteredMmio (record { ipa = a .access .ipa; offset = a .offset; width = a .access .width; value = value })
-stored c = rw (← c .before .before .register-value .ensures, ← c .before .store-value .ensures) (c .write-filtered-mmio .ensures)
+    ≡ writeFilteredMmio (record { ipa = a .access .ipa; offset = a .offset; width = a .access .width; value = storeValue (a .access) (a .rt) })
+stored c = rw (← c .before .store-value .ensures) (c .write-filtered-mmio .ensures)
 
 enum-told : tie.Need-enum-told
 enum-told c = search needs
@@ -24,9 +22,6 @@ unhandled-requires c κs = search needs
 enum-told-2 : tie.Need-enum-told-2
 enum-told-2 c = search needs
 
-register-value-requires : tie.Need-register-value-requires
-register-value-requires c κs = search needs
-
 store-value-requires : tie.Need-store-value-requires
 store-value-requires c κs = search needs
 
@@ -35,9 +30,6 @@ write-filtered-mmio-requires c κs = search needs
 
 enum-told-3 : tie.Need-enum-told-3
 enum-told-3 c = search needs
-
-advance-pc-requires : tie.Need-advance-pc-requires
-advance-pc-requires c κs = search needs
 
 enum-told-4 : tie.Need-enum-told-4
 enum-told-4 c = search needs
@@ -53,10 +45,9 @@ returns-2 : tie.Need-returns-2
 unfolding writeThrough
 returns-2 c =
     rw (
-      c .advance-pc .ensures,
-      c .before .before .before .before .before .before .enum-told2 .given .1,
-      ← stored (c .before .before .before),
-      c .before .enum-told3 .given .1,
+      c .before .before .before .before .enum-told2 .given .1,
+      ← stored (c .before .before),
+      c .enum-told3 .given .1,
     )
 
 returns-3 : tie.Need-returns-3
@@ -64,7 +55,7 @@ unfolding writeThrough
 returns-3 c =
     rw (
       c .unhandled2 .ensures,
-      c .before .before .before .before .before .before .enum-told2 .given .1,
+      c .before .before .before .before .before .enum-told2 .given .1,
       ← stored (c .before .before .before),
       c .before .enum-told4 .given .1,
     )
@@ -76,11 +67,9 @@ write-through-spec =
     enum-told
     unhandled-requires
     enum-told-2
-    register-value-requires
     store-value-requires
     write-filtered-mmio-requires
     enum-told-3
-    advance-pc-requires
     enum-told-4
     unhandled-requires-2
     returns

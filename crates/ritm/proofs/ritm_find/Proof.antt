@@ -3,7 +3,8 @@ use native.Mathlib.Omega.{arith}
 use mathlib.Core.Path.{refl}
 use borrow.Author.Tests.{lt-ltb}
 use Rattle.ritm.specs.Interface.{findCall}
-use Rattle.ritm.proofs.Find.{base-below, found-here, found-nothing}
+use Rattle.policy_layout.proofs.Find.{base-below}
+use Rattle.ritm.proofs.Find.{found-here, found-nothing}
 use Rattle.ritm.proofs.ritm_find.Statement.{statement}
 use Rattle.ritm.proofs.ritm_find.Tie as tie
 
@@ -22,7 +23,7 @@ get-region-base-requires c κs = search needs
 sub-offset : tie.Need-sub-offset
 sub-offset c = let a = c .before .before .before .before .before .args in
     let p = c .before .before .before .before .find-place in
-    let h = base-below (a .policy .now) (a .ipa) (p .result) (p .ensures) (omega (arith, c .before .before .held-count .ensures, c .before .before .before .get-region-count .ensures)) in
+    let h = base-below (a .policy .now) (record { 0 = a .ipa }) (p .result) (p .ensures) (omega (arith, c .before .before .held-count .ensures, c .before .before .before .get-region-count .ensures)) in
     rw (c .get-region-base .ensures, lt-ltb (p .result) 16 (omega (arith, c .before .before .held-count .ensures))) h
 
 put-three-requires : tie.Need-put-three-requires

@@ -1,8 +1,8 @@
 use borrow.Author.Needs.{needs}
 use borrow.Author.Tests.{lt-ltb, le-ltb}
-use Rattle.ritm.specs.Interface.{readCall}
 use native.Mathlib.Omega.{arith}
-use Rattle.ritm.proofs.Cores.{same-core}
+use Rattle.ritm.specs.Interface.{readCall}
+use Rattle.lent_trap.proofs.Laws.{same-core}
 use Rattle.ritm.proofs.ritm_read_gpr.Statement.{statement}
 use Rattle.ritm.proofs.ritm_read_gpr.Tie as tie
 
@@ -17,11 +17,8 @@ unfolding readCall
 returns c = let a = c .before .before .before .before .args in
     (rw (lt-ltb 7 (a .core) (omega arith)) (c .number .ensures), rw (lt-ltb 7 (a .core) (omega arith)) (c .before .put-one-word .ensures))
 
-get-core-requires : tie.Need-get-core-requires
-get-core-requires c κs = search needs
-
-read-gpr-requires : tie.Need-read-gpr-requires
-read-gpr-requires c κs = search needs
+get-gpr-requires : tie.Need-get-gpr-requires
+get-gpr-requires c κs = search needs
 
 value-requires : tie.Need-value-requires
 value-requires c κs = search needs
@@ -34,10 +31,11 @@ number-requires-2 c κs = search needs
 
 returns-2 : tie.Need-returns-2
 unfolding readCall
-returns-2 c = let a = c .before .before .before .before .before .before .before .args in (
-  rw (le-ltb 7 (a .core) (omega arith), same-core (a .cores .now) (a .core) (omega arith), ← c .before .before .before .before .before .get-core .ensures, ← c .before .before .before .before .read-gpr .ensures) (c .number2 .ensures),
-  rw (le-ltb 7 (a .core) (omega arith), same-core (a .cores .now) (a .core) (omega arith), ← c .before .before .before .before .before .get-core .ensures, ← c .before .before .before .before .read-gpr .ensures, ← c .before .before .value .ensures) (c .before .put-one-word2 .ensures),
-)
+returns-2 c = let s = c .before .before .before .before in
+    let a = s .before .before .args in (
+      rw (le-ltb 7 (a .core) (omega arith), same-core (a .cores .now) (a .core) (omega arith), ← s .get-gpr .ensures) (c .number2 .ensures),
+      rw (le-ltb 7 (a .core) (omega arith), same-core (a .cores .now) (a .core) (omega arith), ← s .get-gpr .ensures, ← c .before .before .value .ensures) (c .before .put-one-word2 .ensures),
+    )
 
 pub ritm-read-gpr-spec : {M : Type 1} → statement M
 ritm-read-gpr-spec =
@@ -46,8 +44,7 @@ ritm-read-gpr-spec =
     put-one-word-requires
     number-requires
     returns
-    get-core-requires
-    read-gpr-requires
+    get-gpr-requires
     value-requires
     put-one-word-requires-2
     number-requires-2

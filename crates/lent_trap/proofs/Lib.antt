@@ -1,0 +1,2 @@
+-- Laws of a trap on lent bytes.
+pub mod Laws

@@ -1,0 +1,2 @@
+-- What the contracts of `lent_trap` cite.
+pub mod LentTrap
