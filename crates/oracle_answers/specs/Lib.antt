@@ -1,0 +1,2 @@
+-- What the contracts of `oracle_answers` cite.
+pub mod Hexadecimal
