@@ -4,8 +4,11 @@ use super::line::MAX_FIELDS;
 use super::state::State;
 use super::state::Step;
 use super::state::copy;
+use super::state::no_record;
 use data_abort::TrapRegisters;
+use exceptions::Core;
 use forwarded_call::HvcReply;
+use hypervisor::CoresStep;
 use memory_access::Fipa;
 
 const LAST_CORE: u64 = 7;
@@ -15,14 +18,24 @@ pub fn save(state: State, fields: [u64; MAX_FIELDS]) -> Step {
     let mut x = [0u64; 31];
     copy(&fields[2..33], &mut x);
     let cores = state.cores;
-    let step = hypervisor::save(cores, fields[1], x, fields[33], fields[34]);
+    let saved = hypervisor::save(cores, fields[1], x, fields[33], fields[34]);
+    core_step(state, saved, fields, 35)
+}
+
+// What a save or a reply comes to, its number in this field.
+fn core_step(state: State, step: CoresStep, fields: [u64; MAX_FIELDS], field: usize) -> Step
+    requires { ⌜ field < 39 ⌝ }
+{
     let answer = step.answer;
-    let after = step.cores;
     let mut answered = fields;
-    answered[35] = answer.number();
+    answered[field] = answer.number();
+    let cores = step.cores;
     let mut next = state;
-    next.cores = after;
-    next.answers(answered)
+    next.cores = cores;
+    Step {
+        fields: answered,
+        state: next,
+    }
 }
 
 // core esr fipa far vbar | number kind v0..v17
@@ -44,13 +57,15 @@ pub fn trap(state: State, fields: [u64; MAX_FIELDS]) -> Step {
     let policy = step.policy;
     let cores = step.cores;
     let map = state.map;
-    let next = State {
-        policy,
-        cores,
-        counter: step.counter,
-        map,
-    };
-    next.answers(answered)
+    Step {
+        fields: answered,
+        state: State {
+            policy,
+            cores,
+            counter: step.counter,
+            map,
+        },
+    }
 }
 
 fn with_values(fields: [u64; MAX_FIELDS], values: [u64; 18]) -> [u64; MAX_FIELDS] {
@@ -63,7 +78,10 @@ fn with_values(fields: [u64; MAX_FIELDS], values: [u64; 18]) -> [u64; MAX_FIELDS
 pub fn reply(state: State, fields: [u64; MAX_FIELDS]) -> Step {
     let error = fields[21];
     if 0xFFFF_FFFF < error {
-        return state.refuses(fields);
+        return Step {
+            fields: no_record(fields),
+            state,
+        };
     }
     let mut values = [0u64; 18];
     copy(&fields[3..21], &mut values);
@@ -73,21 +91,18 @@ pub fn reply(state: State, fields: [u64; MAX_FIELDS]) -> Step {
         error: signed(error),
     };
     let cores = state.cores;
-    let step = hypervisor::reply(cores, fields[1], reply);
-    let answer = step.answer;
-    let after = step.cores;
-    let mut answered = fields;
-    answered[22] = answer.number();
-    let mut next = state;
-    next.cores = after;
-    next.answers(answered)
+    let replied = hypervisor::reply(cores, fields[1], reply);
+    core_step(state, replied, fields, 22)
 }
 
 // core index value | number
 pub fn write_gpr(state: State, fields: [u64; MAX_FIELDS]) -> Step {
     let at = fields[1];
     if LAST_CORE < at {
-        return state.refuses(fields);
+        return Step {
+            fields: no_record(fields),
+            state,
+        };
     }
     let mut cores = state.cores;
     let core = cores[at as usize];
@@ -99,16 +114,18 @@ pub fn write_gpr(state: State, fields: [u64; MAX_FIELDS]) -> Step {
     cores[at as usize] = after;
     let mut next = state;
     next.cores = cores;
-    next.answers(answered)
+    Step {
+        fields: answered,
+        state: next,
+    }
 }
 
 // core | x0..x30 elr spsr elr_el1 spsr_el1 far_el1 esr_el1
-pub fn core_state(state: State, fields: [u64; MAX_FIELDS]) -> Step {
+pub fn core_state(cores: [Core; 8], fields: [u64; MAX_FIELDS]) -> [u64; MAX_FIELDS] {
     let at = fields[1];
     if LAST_CORE < at {
-        return state.refuses(fields);
+        return no_record(fields);
     }
-    let cores = state.cores;
     let core = cores[at as usize];
     let x = core.x;
     let el1 = core.el1;
@@ -119,7 +136,7 @@ pub fn core_state(state: State, fields: [u64; MAX_FIELDS]) -> Step {
     answered[36] = el1.spsr;
     answered[37] = el1.far;
     answered[38] = el1.esr;
-    state.answers(answered)
+    answered
 }
 
 fn with_registers(fields: [u64; MAX_FIELDS], x: [u64; 31]) -> [u64; MAX_FIELDS] {
@@ -129,10 +146,10 @@ fn with_registers(fields: [u64; MAX_FIELDS], x: [u64; 31]) -> [u64; MAX_FIELDS] 
 }
 
 // | counter
-pub fn counter(state: State, fields: [u64; MAX_FIELDS]) -> Step {
+pub fn counter(counter: u64, fields: [u64; MAX_FIELDS]) -> [u64; MAX_FIELDS] {
     let mut answered = fields;
-    answered[1] = state.counter;
-    state.answers(answered)
+    answered[1] = counter;
+    answered
 }
 
 // The number whose 32-bit two's complement word this is.

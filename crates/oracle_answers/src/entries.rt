@@ -2,7 +2,9 @@
 use super::line::MAX_FIELDS;
 use super::state::State;
 use super::state::Step;
+use super::state::with_three;
 use simple_map::Lookup;
+use simple_map::SimpleMap;
 use simple_map::SuspendCoreData;
 
 // key entry_point context_id | number
@@ -19,13 +21,15 @@ pub fn insert(state: State, fields: [u64; MAX_FIELDS]) -> Step {
     answered[4] = answer.number();
     let mut next = state;
     next.map = after;
-    next.answers(answered)
+    Step {
+        fields: answered,
+        state: next,
+    }
 }
 
 // key | found entry_point context_id
-pub fn look_up(state: State, fields: [u64; MAX_FIELDS]) -> Step {
-    let map = state.map;
-    state.answers(found(fields, map.get(fields[1])))
+pub fn look_up(map: SimpleMap, fields: [u64; MAX_FIELDS]) -> [u64; MAX_FIELDS] {
+    found(fields, map.get(fields[1]))
 }
 
 // key | found entry_point context_id
@@ -36,22 +40,15 @@ pub fn remove(state: State, fields: [u64; MAX_FIELDS]) -> Step {
     let after = step.map;
     let mut next = state;
     next.map = after;
-    next.answers(found(fields, removed))
+    Step {
+        fields: found(fields, removed),
+        state: next,
+    }
 }
 
 fn found(fields: [u64; MAX_FIELDS], lookup: Lookup) -> [u64; MAX_FIELDS] {
-    let mut answered = fields;
     match lookup {
-        Lookup::Value(value) => {
-            answered[2] = 1;
-            answered[3] = value.entry_point;
-            answered[4] = value.context_id;
-        }
-        Lookup::Nothing => {
-            answered[2] = 0;
-            answered[3] = 0;
-            answered[4] = 0;
-        }
+        Lookup::Value(value) => with_three(fields, 1, value.entry_point, value.context_id),
+        Lookup::Nothing => with_three(fields, 0, 0, 0),
     }
-    answered
 }

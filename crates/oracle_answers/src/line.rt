@@ -7,11 +7,10 @@ ghost use Rattle.oracle_answers.specs.Hexadecimal.{digitOf, appended};
 // The most fields that a record has: a core's.
 pub const MAX_FIELDS: usize = 39;
 
-// A line's numbers, zeros after them; `ok` is false where it is no list of such numbers.
+// A line's numbers, zeros after them, and how many they are: none where the line is not made of numbers.
 pub struct Line {
     pub fields: [u64; MAX_FIELDS],
     pub count: usize,
-    pub ok: bool,
 }
 
 // What a field holds: its number, or that the field holds none of 64 bits.
@@ -92,21 +91,17 @@ pub fn parse(line: &[u8]) -> Line {
         }
         count += 1;
         if end == line.len() {
-            return Line {
-                fields,
-                count,
-                ok: true,
-            };
+            return Line { fields, count };
         }
         at = end + 1;
     }
     malformed()
 }
 
-fn malformed() -> Line {
+// A line that is not made of numbers.
+pub fn malformed() -> Line {
     Line {
         fields: [0u64; MAX_FIELDS],
         count: 0,
-        ok: false,
     }
 }

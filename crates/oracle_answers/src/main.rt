@@ -8,13 +8,13 @@ mod state;
 mod values;
 
 ghost use mathlib.Core.Path.{_≡_};
-ghost use Prim.Native.Nat.{_^_, _<_};
+ghost use Prim.Native.Nat.{_^_, _≤_, _<_};
 ghost use lib.ListN.{length};
 use libc::STDIN_FILENO;
 use libc::STDOUT_FILENO;
+use line::Line;
 use record::Difference;
 use record::Outcome;
-use state::State;
 
 // One byte more than the longest input.
 const INPUT_SIZE: usize = 0x10_0000;
@@ -31,26 +31,7 @@ fn say_agreed(agreed: u64) {
     io::write_all(STDOUT_FILENO, b" records agree\n");
 }
 
-// Begins the line about the first record that does not agree, after the line about those that do.
-fn say_line(agreed: u64)
-    requires { ⌜ agreed < 2 ^ 63 ⌝ }
-{
-    say_agreed(agreed);
-    io::write_all(STDOUT_FILENO, b"line ");
-    io::print_decimal(STDOUT_FILENO, agreed + 1);
-}
-
-fn say_malformed(agreed: u64)
-    requires { ⌜ agreed < 2 ^ 63 ⌝ }
-{
-    say_line(agreed);
-    io::write_all(STDOUT_FILENO, b" is not a record\n");
-}
-
-fn say_difference(agreed: u64, difference: Difference)
-    requires { ⌜ agreed < 2 ^ 63 ⌝ }
-{
-    say_line(agreed);
+fn say_difference(difference: Difference) {
     io::write_all(STDOUT_FILENO, b" does not: field ");
     io::print_decimal(STDOUT_FILENO, difference.field);
     io::write_all(STDOUT_FILENO, b" is 0x");
@@ -60,6 +41,15 @@ fn say_difference(agreed: u64, difference: Difference)
     io::write_all(STDOUT_FILENO, b"\n");
 }
 
+// Begins the line about the first record that does not agree, after the line about those that do.
+fn say_line(agreed: u64)
+    requires { ⌜ agreed < 2 ^ 63 ⌝ }
+{
+    say_agreed(agreed);
+    io::write_all(STDOUT_FILENO, b"line ");
+    io::print_decimal(STDOUT_FILENO, agreed + 1);
+}
+
 // Whether the run goes on after such an outcome; where not, says why.
 fn goes_on(outcome: Outcome, agreed: u64) -> bool
     requires { ⌜ agreed < 2 ^ 63 ⌝ }
@@ -67,28 +57,35 @@ fn goes_on(outcome: Outcome, agreed: u64) -> bool
     match outcome {
         Outcome::Agrees => true,
         Outcome::Differs(difference) => {
-            say_difference(agreed, difference);
+            say_line(agreed);
+            say_difference(difference);
             false
         }
         Outcome::NotARecord => {
-            say_malformed(agreed);
+            say_line(agreed);
+            io::write_all(STDOUT_FILENO, b" is not a record\n");
             false
         }
     }
 }
 
-// A last line that no newline ends is cut off, and no record.
+// The numbers of the line from a place up to its end. A line that no newline ends is cut off, and malformed.
+fn line_at(text: &[u8], at: usize, end: usize) -> Line
+    requires { ⌜ (at ≤ end) × (end ≤ length (now text)) ⌝ }
+{
+    if end == text.len() {
+        return line::malformed();
+    }
+    line::parse(&text[at..end])
+}
+
 fn replay(text: &[u8]) {
-    let mut state = State::fresh(0);
+    let mut state = state::fresh(0);
     let mut agreed: u64 = 0;
     let mut at: usize = 0;
     while at < text.len() {
         let end = line::position(text, at, b'\n');
-        if end == text.len() {
-            say_malformed(agreed);
-            return;
-        }
-        let step = record::replay(state, line::parse(&text[at..end]));
+        let step = record::replay(state, line_at(text, at, end));
         let outcome = step.outcome;
         if !goes_on(outcome, agreed) {
             return;

@@ -13,40 +13,41 @@ pub struct State {
     pub map: SimpleMap,
 }
 
-// The state after a record's call, and the record's fields as the library answers them. `ok` is false where the record names a core or a
-// place that there is not, or a number too wide for its argument.
+// The record's fields as the library answers them, and the state then.
 pub struct Step {
-    pub state: State,
     pub fields: [u64; MAX_FIELDS],
-    pub ok: bool,
+    pub state: State,
 }
 
-impl State {
-    // No range, region or entry, fresh cores.
-    pub fn fresh(counter: u64) -> State {
-        State {
-            policy: Policy::new(),
-            cores: hypervisor::fresh_cores(),
-            counter,
-            map: SimpleMap::new(),
-        }
+// No range, region or entry, fresh cores.
+pub fn fresh(counter: u64) -> State {
+    State {
+        policy: Policy::new(),
+        cores: hypervisor::fresh_cores(),
+        counter,
+        map: SimpleMap::new(),
     }
+}
 
-    pub fn answers(self, fields: [u64; MAX_FIELDS]) -> Step {
-        Step {
-            state: self,
-            fields,
-            ok: true,
-        }
-    }
+// What stands for the answer to a line that is no record: its code is another than the line's.
+pub fn no_record(fields: [u64; MAX_FIELDS]) -> [u64; MAX_FIELDS] {
+    let mut answered = fields;
+    answered[0] = !fields[0];
+    answered
+}
 
-    pub fn refuses(self, fields: [u64; MAX_FIELDS]) -> Step {
-        Step {
-            state: self,
-            fields,
-            ok: false,
-        }
-    }
+// The first three words of an answer to a record with one argument.
+pub fn with_three(
+    fields: [u64; MAX_FIELDS],
+    first: u64,
+    second: u64,
+    third: u64,
+) -> [u64; MAX_FIELDS] {
+    let mut answered = fields;
+    answered[2] = first;
+    answered[3] = second;
+    answered[4] = third;
+    answered
 }
 
 // Copies a list of the same length.

@@ -1,14 +1,14 @@
-use Prim.Native.Nat.{_≤_, _-_}
+use Prim.Native.Nat.{_+_, _≤_, _-_}
 use borrow.Author.Needs.{needs}
 use lib.ListN.{length}
 use Rattle.oracle_answers.proofs.replay.Statement.{statement}
 use Rattle.oracle_answers.proofs.replay.Tie as tie
 
 abbrev Inv-loop : tie.InvT-loop
-Inv-loop text state₀ agreed₀ at₀ state agreed at = (at ≤ length text) × (agreed ≤ at)
+Inv-loop text state₀ agreed₀ at₀ state agreed at = (at ≤ length text + 1) × (agreed ≤ at)
 
 abbrev μ-loop : tie.MeasureT-loop
-μ-loop text state₀ agreed₀ at₀ state agreed at = length text - at
+μ-loop text state₀ agreed₀ at₀ state agreed at = length text + 1 - at
 
 fresh-requires : tie.Need-fresh-requires Inv-loop μ-loop
 fresh-requires c κs = search needs
@@ -19,23 +19,8 @@ loop-holds c = search needs
 position-requires : tie.Need-position-requires Inv-loop μ-loop
 position-requires c κs = search needs
 
-say-malformed-requires : tie.Need-say-malformed-requires Inv-loop μ-loop
-say-malformed-requires c κs = search needs
-
-returns : tie.Need-returns Inv-loop μ-loop
-returns c = search needs
-
-sub-parse : tie.Need-sub-parse Inv-loop μ-loop
-sub-parse c = search needs
-
-part-parse-start : tie.Need-part-parse-start Inv-loop μ-loop
-part-parse-start c = search needs
-
-part-parse-end : tie.Need-part-parse-end Inv-loop μ-loop
-part-parse-end c = search needs
-
-parse-requires : tie.Need-parse-requires Inv-loop μ-loop
-parse-requires c κs = search needs
+line-at-requires : tie.Need-line-at-requires Inv-loop μ-loop
+line-at-requires c κs = search needs
 
 replay-requires : tie.Need-replay-requires Inv-loop μ-loop
 replay-requires c κs = search needs
@@ -43,8 +28,8 @@ replay-requires c κs = search needs
 goes-on-requires : tie.Need-goes-on-requires Inv-loop μ-loop
 goes-on-requires c κs = search needs
 
-returns-2 : tie.Need-returns-2 Inv-loop μ-loop
-returns-2 c = search needs
+returns : tie.Need-returns Inv-loop μ-loop
+returns c = search needs
 
 add-agreed : tie.Need-add-agreed Inv-loop μ-loop
 add-agreed c = search needs
@@ -61,8 +46,8 @@ loop-again c = search needs
 say-agreed-requires : tie.Need-say-agreed-requires Inv-loop μ-loop
 say-agreed-requires c κs = search needs
 
-returns-3 : tie.Need-returns-3 Inv-loop μ-loop
-returns-3 c = search needs
+returns-2 : tie.Need-returns-2 Inv-loop μ-loop
+returns-2 c = search needs
 
 pub replay-spec : {M : Type 1} → statement M
 replay-spec =
@@ -73,18 +58,13 @@ replay-spec =
     fresh-requires
     loop-holds
     position-requires
-    say-malformed-requires
-    returns
-    sub-parse
-    part-parse-start
-    part-parse-end
-    parse-requires
+    line-at-requires
     replay-requires
     goes-on-requires
-    returns-2
+    returns
     add-agreed
     add-at
     loop-less
     loop-again
     say-agreed-requires
-    returns-3)
+    returns-2)

@@ -4,40 +4,28 @@ use Rattle.oracle_answers.proofs.record.compare.Statement.{statement}
 use Rattle.oracle_answers.proofs.record.compare.Tie as tie
 
 abbrev Inv-loop : tie.InvT-loop
-Inv-loop found recorded i₀ i = i ≤ 39
+Inv-loop answered recorded i₀ i = i ≤ 39
 
 abbrev μ-loop : tie.MeasureT-loop
-μ-loop found recorded i₀ i = 39 - i
+μ-loop answered recorded i₀ i = 39 - i
 
 loop-holds : tie.Need-loop-holds Inv-loop μ-loop
 loop-holds c = search needs
 
-mul-if1 : tie.Need-mul-if1 Inv-loop μ-loop
-mul-if1 c = search needs
+mul-a : tie.Need-mul-a Inv-loop μ-loop
+mul-a c = search needs
 
-array-read-if1 : tie.Need-array-read-if1 Inv-loop μ-loop
-array-read-if1 c = search needs
+array-read-a : tie.Need-array-read-a Inv-loop μ-loop
+array-read-a c = search needs
 
-mul-if1-2 : tie.Need-mul-if1-2 Inv-loop μ-loop
-mul-if1-2 c = search needs
+mul-r : tie.Need-mul-r Inv-loop μ-loop
+mul-r c = search needs
 
-array-read-if1-2 : tie.Need-array-read-if1-2 Inv-loop μ-loop
-array-read-if1-2 c = search needs
+array-read-r : tie.Need-array-read-r Inv-loop μ-loop
+array-read-r c = search needs
 
-add-t16 : tie.Need-add-t16 Inv-loop μ-loop
-add-t16 c = search needs
-
-mul-t17 : tie.Need-mul-t17 Inv-loop μ-loop
-mul-t17 c = search needs
-
-array-read-t20 : tie.Need-array-read-t20 Inv-loop μ-loop
-array-read-t20 c = search needs
-
-mul-t21 : tie.Need-mul-t21 Inv-loop μ-loop
-mul-t21 c = search needs
-
-array-read-t24 : tie.Need-array-read-t24 Inv-loop μ-loop
-array-read-t24 c = search needs
+differs-requires : tie.Need-differs-requires Inv-loop μ-loop
+differs-requires c κs = search needs
 
 returns : tie.Need-returns Inv-loop μ-loop
 returns c = search needs
@@ -61,15 +49,11 @@ compare-spec =
     Inv-loop
     μ-loop
     loop-holds
-    mul-if1
-    array-read-if1
-    mul-if1-2
-    array-read-if1-2
-    add-t16
-    mul-t17
-    array-read-t20
-    mul-t21
-    array-read-t24
+    mul-a
+    array-read-a
+    mul-r
+    array-read-r
+    differs-requires
     returns
     add-i
     loop-less
