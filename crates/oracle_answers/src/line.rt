@@ -43,12 +43,9 @@ fn append(value: u64, digit: u64) -> Field
     Field::Value(value * 16 + digit)
 }
 
-// The number that a field writes. A leading zero is refused, as is a field with no digit.
+// The number that a field writes.
 fn field_number(field: &[u8]) -> Field {
     if field.len() == 0 {
-        return Field::Malformed;
-    }
-    if 1 < field.len() && field[0] == b'0' {
         return Field::Malformed;
     }
     let mut value: u64 = 0;
@@ -99,7 +96,7 @@ pub fn parse(line: &[u8]) -> Line {
 }
 
 // A line that is not made of numbers.
-pub fn malformed() -> Line {
+fn malformed() -> Line {
     Line {
         fields: [0u64; MAX_FIELDS],
         count: 0,

@@ -8,11 +8,10 @@ mod state;
 mod values;
 
 ghost use mathlib.Core.Path.{_≡_};
-ghost use Prim.Native.Nat.{_^_, _≤_, _<_};
+ghost use Prim.Native.Nat.{_^_, _<_};
 ghost use lib.ListN.{length};
 use libc::STDIN_FILENO;
 use libc::STDOUT_FILENO;
-use line::Line;
 use record::Difference;
 use record::Outcome;
 
@@ -50,7 +49,7 @@ fn say_line(agreed: u64)
     io::print_decimal(STDOUT_FILENO, agreed + 1);
 }
 
-// Whether the run goes on after such an outcome; where not, says why.
+// Whether the run goes on after such an outcome; where not, says why. An answer with another code than the line stands for none.
 fn goes_on(outcome: Outcome, agreed: u64) -> bool
     requires { ⌜ agreed < 2 ^ 63 ⌝ }
 {
@@ -58,25 +57,14 @@ fn goes_on(outcome: Outcome, agreed: u64) -> bool
         Outcome::Agrees => true,
         Outcome::Differs(difference) => {
             say_line(agreed);
-            say_difference(difference);
-            false
-        }
-        Outcome::NotARecord => {
-            say_line(agreed);
-            io::write_all(STDOUT_FILENO, b" is not a record\n");
+            if difference.field == 1 {
+                io::write_all(STDOUT_FILENO, b" is not a record\n");
+            } else {
+                say_difference(difference);
+            }
             false
         }
     }
-}
-
-// The numbers of the line from a place up to its end. A line that no newline ends is cut off, and malformed.
-fn line_at(text: &[u8], at: usize, end: usize) -> Line
-    requires { ⌜ (at ≤ end) × (end ≤ length (now text)) ⌝ }
-{
-    if end == text.len() {
-        return line::malformed();
-    }
-    line::parse(&text[at..end])
 }
 
 fn replay(text: &[u8]) {
@@ -85,7 +73,7 @@ fn replay(text: &[u8]) {
     let mut at: usize = 0;
     while at < text.len() {
         let end = line::position(text, at, b'\n');
-        let step = record::replay(state, line_at(text, at, end));
+        let step = record::replay(state, line::parse(&text[at..end]));
         let outcome = step.outcome;
         if !goes_on(outcome, agreed) {
             return;

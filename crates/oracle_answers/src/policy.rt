@@ -1,85 +1,79 @@
 // The records of the policy: 1 to 3, and its state, 11 to 13.
-ghost use Prim.Native.Nat.{_<_};
 use super::line::MAX_FIELDS;
+use super::state::Answer;
 use super::state::State;
 use super::state::Step;
-use super::state::no_record;
-use super::state::with_three;
+use super::state::one_word;
 use memory_access::Ipa;
 use stage2::Built;
 use stage2::Policy;
-use stage2_range::MAX_ALLOWED_RANGES;
-use stage2_range::MAX_MEMORY_ACCESS_HANDLERS;
 use stage2_range::MemoryHandler;
 use stage2_range::RegionFound;
 
-// base size attributes | number
-pub fn allow(state: State, fields: [u64; MAX_FIELDS]) -> Step {
-    let policy = state.policy;
-    let built = policy.allow_range(fields[1], fields[2], fields[3]);
-    builder_step(state, built, fields, 4)
-}
-
-// base size read write | number
-pub fn handle(state: State, fields: [u64; MAX_FIELDS]) -> Step {
-    let policy = state.policy;
-    let built = policy.handle_range(fields[1], fields[2], fields[3], fields[4]);
-    builder_step(state, built, fields, 5)
-}
-
-// What a builder call comes to, its number in this field.
-fn builder_step(state: State, built: Built, fields: [u64; MAX_FIELDS], field: usize) -> Step
-    requires { ⌜ field < 39 ⌝ }
-{
+// What a builder call comes to.
+pub fn built(state: State, fields: [u64; MAX_FIELDS], built: Built) -> Step {
     let answer = built.answer;
-    let mut answered = fields;
-    answered[field] = answer.number();
     let policy = built.policy;
     let mut next = state;
     next.policy = policy;
     Step {
-        fields: answered,
+        answer: one_word(fields, answer.number()),
         state: next,
     }
 }
 
-// ipa | found base offset
-pub fn find(policy: Policy, fields: [u64; MAX_FIELDS]) -> [u64; MAX_FIELDS] {
-    match policy.find(Ipa(fields[1])) {
+// found base offset
+pub fn find(policy: Policy, fields: [u64; MAX_FIELDS], ipa: u64) -> Answer {
+    match policy.find(Ipa(ipa)) {
         RegionFound::Match(m) => {
             let region = m.region;
-            with_three(fields, 1, region.base_ipa, m.offset)
+            Answer {
+                fields,
+                first: 1,
+                words: [region.base_ipa, m.offset, 0, 0, 0, 0],
+            }
         }
-        RegionFound::Nothing => with_three(fields, 0, 0, 0),
+        RegionFound::Nothing => one_word(fields, 0),
     }
 }
 
-// place | base size end attributes
-pub fn allowed_at(policy: Policy, fields: [u64; MAX_FIELDS]) -> [u64; MAX_FIELDS] {
-    let place = fields[1];
-    if MAX_ALLOWED_RANGES <= place {
-        return no_record(fields);
-    }
+// The place, the last one where there is no such place, and what it holds: base size end attributes.
+pub fn allowed_at(policy: Policy, fields: [u64; MAX_FIELDS], place: u64) -> Answer {
+    let place = lists::held_count(place, 31);
     let range = policy.allowed[place as usize];
-    let mut answered = with_three(fields, range.base_ipa, range.size, range.end_ipa);
-    answered[5] = range.attributes;
-    answered
+    Answer {
+        fields,
+        first: place,
+        words: [
+            range.base_ipa,
+            range.size,
+            range.end_ipa,
+            range.attributes,
+            0,
+            0,
+        ],
+    }
 }
 
-// place | base size end read write
-pub fn region_at(policy: Policy, fields: [u64; MAX_FIELDS]) -> [u64; MAX_FIELDS] {
-    let place = fields[1];
-    if MAX_MEMORY_ACCESS_HANDLERS <= place {
-        return no_record(fields);
-    }
+// The same of the regions: base size end read write.
+pub fn region_at(policy: Policy, fields: [u64; MAX_FIELDS], place: u64) -> Answer {
+    let place = lists::held_count(place, 15);
     let region = policy.regions[place as usize];
     let handler = region.handler;
     let read = handler.read;
     let write = handler.write;
-    let mut answered = with_three(fields, region.base_ipa, region.size, region.end_ipa);
-    answered[5] = handler_number(read);
-    answered[6] = handler_number(write);
-    answered
+    Answer {
+        fields,
+        first: place,
+        words: [
+            region.base_ipa,
+            region.size,
+            region.end_ipa,
+            handler_number(read),
+            handler_number(write),
+            0,
+        ],
+    }
 }
 
 fn handler_number(handler: MemoryHandler) -> u64 {
@@ -89,10 +83,11 @@ fn handler_number(handler: MemoryHandler) -> u64 {
     }
 }
 
-// | allowed_count region_count
-pub fn counts(policy: Policy, fields: [u64; MAX_FIELDS]) -> [u64; MAX_FIELDS] {
-    let mut answered = fields;
-    answered[1] = policy.allowed_count;
-    answered[2] = policy.region_count;
-    answered
+// allowed_count region_count
+pub fn counts(policy: Policy, fields: [u64; MAX_FIELDS]) -> Answer {
+    Answer {
+        fields,
+        first: policy.allowed_count,
+        words: [policy.region_count, 0, 0, 0, 0, 0],
+    }
 }

@@ -13,9 +13,25 @@ pub struct State {
     pub map: SimpleMap,
 }
 
-// The record's fields as the library answers them, and the state then.
-pub struct Step {
+// The first arguments of a record.
+pub struct Arguments {
+    pub a: u64,
+    pub b: u64,
+    pub c: u64,
+    pub d: u64,
+    pub e: u64,
+}
+
+// What the library answers: the record's fields, with a list of values or registers in its place, the first other word, and those after it.
+pub struct Answer {
     pub fields: [u64; MAX_FIELDS],
+    pub first: u64,
+    pub words: [u64; 6],
+}
+
+// The answer, and the state then.
+pub struct Step {
+    pub answer: Answer,
     pub state: State,
 }
 
@@ -29,25 +45,20 @@ pub fn fresh(counter: u64) -> State {
     }
 }
 
-// What stands for the answer to a line that is no record: its code is another than the line's.
-pub fn no_record(fields: [u64; MAX_FIELDS]) -> [u64; MAX_FIELDS] {
-    let mut answered = fields;
-    answered[0] = !fields[0];
-    answered
+// An answer of one word.
+pub fn one_word(fields: [u64; MAX_FIELDS], first: u64) -> Answer {
+    Answer {
+        fields,
+        first,
+        words: [0u64; 6],
+    }
 }
 
-// The first three words of an answer to a record with one argument.
-pub fn with_three(
-    fields: [u64; MAX_FIELDS],
-    first: u64,
-    second: u64,
-    third: u64,
-) -> [u64; MAX_FIELDS] {
-    let mut answered = fields;
-    answered[2] = first;
-    answered[3] = second;
-    answered[4] = third;
-    answered
+// What stands for the answer to a line that is no record: its code is another than the line's.
+pub fn no_record(fields: [u64; MAX_FIELDS]) -> Answer {
+    let mut other = fields;
+    other[0] = !fields[0];
+    one_word(other, 0)
 }
 
 // Copies a list of the same length.

@@ -19,8 +19,17 @@ loop-holds c = search needs
 position-requires : tie.Need-position-requires Inv-loop μ-loop
 position-requires c κs = search needs
 
-line-at-requires : tie.Need-line-at-requires Inv-loop μ-loop
-line-at-requires c κs = search needs
+sub-parse : tie.Need-sub-parse Inv-loop μ-loop
+sub-parse c = search needs
+
+part-parse-start : tie.Need-part-parse-start Inv-loop μ-loop
+part-parse-start c = search needs
+
+part-parse-end : tie.Need-part-parse-end Inv-loop μ-loop
+part-parse-end c = search needs
+
+parse-requires : tie.Need-parse-requires Inv-loop μ-loop
+parse-requires c κs = search needs
 
 replay-requires : tie.Need-replay-requires Inv-loop μ-loop
 replay-requires c κs = search needs
@@ -58,7 +67,10 @@ replay-spec =
     fresh-requires
     loop-holds
     position-requires
-    line-at-requires
+    sub-parse
+    part-parse-start
+    part-parse-end
+    parse-requires
     replay-requires
     goes-on-requires
     returns

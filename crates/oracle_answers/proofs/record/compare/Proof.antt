@@ -12,26 +12,23 @@ abbrev μ-loop : tie.MeasureT-loop
 loop-holds : tie.Need-loop-holds Inv-loop μ-loop
 loop-holds c = search needs
 
-mul-a : tie.Need-mul-a Inv-loop μ-loop
-mul-a c = search needs
+mul-found : tie.Need-mul-found Inv-loop μ-loop
+mul-found c = search needs
 
-array-read-a : tie.Need-array-read-a Inv-loop μ-loop
-array-read-a c = search needs
+array-read-found : tie.Need-array-read-found Inv-loop μ-loop
+array-read-found c = search needs
 
-mul-r : tie.Need-mul-r Inv-loop μ-loop
-mul-r c = search needs
+mul-written : tie.Need-mul-written Inv-loop μ-loop
+mul-written c = search needs
 
-array-read-r : tie.Need-array-read-r Inv-loop μ-loop
-array-read-r c = search needs
-
-differs-requires : tie.Need-differs-requires Inv-loop μ-loop
-differs-requires c κs = search needs
-
-returns : tie.Need-returns Inv-loop μ-loop
-returns c = search needs
+array-read-written : tie.Need-array-read-written Inv-loop μ-loop
+array-read-written c = search needs
 
 add-i : tie.Need-add-i Inv-loop μ-loop
 add-i c = search needs
+
+returns : tie.Need-returns Inv-loop μ-loop
+returns c = search needs
 
 loop-less : tie.Need-loop-less Inv-loop μ-loop
 loop-less c = search needs
@@ -49,13 +46,12 @@ compare-spec =
     Inv-loop
     μ-loop
     loop-holds
-    mul-a
-    array-read-a
-    mul-r
-    array-read-r
-    differs-requires
-    returns
+    mul-found
+    array-read-found
+    mul-written
+    array-read-written
     add-i
+    returns
     loop-less
     loop-again
     returns-2)
