@@ -1,0 +1,3 @@
+-- What the contracts of `oracle_answers` cite.
+pub mod Hexadecimal
+pub mod Layout
