@@ -164,7 +164,10 @@ fn dispatch(
         ExceptionClass::SmcTrappedInAArch64 => forward_call(cores, core, Conduit::Smc, result),
         ExceptionClass::DataAbortLowerEl => handle_data_abort(policy, cores, core, trap, result),
         ExceptionClass::Unknown => {
-            answer(TrapAnswer::Refused(CoreError::UnexpectedExceptionClass), result)
+            answer(
+                TrapAnswer::Refused(CoreError::UnexpectedExceptionClass),
+                result,
+            )
         }
     }
 }

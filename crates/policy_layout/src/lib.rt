@@ -83,20 +83,6 @@ fn put_region(policy: &mut [u8; POLICY_SIZE], place: usize, region: MemoryAccess
     words::put_word(policy, at + 4, write_code);
 }
 
-// The 16 places for regions.
-pub fn get_regions(policy: &[u8; POLICY_SIZE]) -> [MemoryAccessRegion; 16]
-    ensures { λ r. ⌜ r ≡ each (regionAt (now (policy .entry))) 0 16 ⌝ }
-{
-    let region = get_region(policy, 0);
-    let mut regions = [region; 16];
-    let mut place: usize = 1;
-    while place < 16 {
-        regions[place] = get_region(policy, place);
-        place += 1;
-    }
-    regions
-}
-
 // How many ranges there are, as the bytes say.
 fn get_allowed_count(policy: &[u8; POLICY_SIZE]) -> u64
     ensures { λ r. ⌜ r ≡ wordAt (now (policy .entry)) 128 ⌝ }

@@ -50,8 +50,7 @@ unfolding forwardCall withWait forwardedValues readGpr
 returns c =
     let s = c .before .before .before .before in
     let f = s .before .before .before .before in
-    let a = f .before .before .before .before .before .before .before .before .args in
-    (
+    let a = f .before .before .before .before .before .before .before .before .args in (
       refl,
       rw (
         c .put-counter .ensures,

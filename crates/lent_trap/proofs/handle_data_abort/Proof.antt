@@ -45,8 +45,7 @@ unfolding handleDataAbort answered
 returns c =
     let s = c .before .before .before .before in
     let t = s .before .before .before .before .before in
-    let a = t .before .before .args in
-    (
+    let a = t .before .before .args in (
       rw (← t .try-memory-access-handler .ensures, s .before .before .before .outcome .given .1) (c .answer .ensures .0),
       rw (
         c .before .before .put-counter .ensures,
@@ -63,8 +62,7 @@ unfolding handleDataAbort answered
 returns-2 c =
     let s = c .before .before .before .before in
     let t = s .before .before .before .before in
-    let a = t .before .before .args in
-    (
+    let a = t .before .before .args in (
       rw (← t .try-memory-access-handler .ensures, s .before .before .enum-told .given .1) (c .answer2 .ensures .0),
       rw (
         c .before .before .put-counter2 .ensures,

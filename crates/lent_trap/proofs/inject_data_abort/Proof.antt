@@ -42,8 +42,7 @@ returns-2 c =
     let s = c .before .before .before .before in
     let f = s .before .before .before .before in
     let a = f .before .before .before .before .before .before .before .before .args in
-    let due = ne-eqb _ _ (f .before .before .before .before .before .before .if1 .left) in
-    (
+    let due = ne-eqb _ _ (f .before .before .before .before .before .before .if1 .left) in (
       rw (due) (c .answer2 .ensures .0),
       rw (
         due,
