@@ -1,4 +1,3 @@
 -- Laws of the cores in lent bytes.
 pub mod Records
-pub mod InPlace
 pub mod States

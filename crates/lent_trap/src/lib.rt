@@ -51,12 +51,12 @@ fn forward_call(
         × (now (result .exit) ≡ trappedOne (now (cores .entry)) core step .result) ⌝ }
 {
     let counter = cores_layout::get_counter(cores);
-    let function_id = cores_layout::get_gpr(cores, core, 0);
+    let function_id = lent_core::get_gpr(cores, core, 0);
     let recipient = forwarded_call::recipient_of(function_id.value());
-    let values = cores_layout::get_first(cores, core, forwarded_call::registers_for(recipient));
+    let values = lent_core::get_first(cores, core, forwarded_call::registers_for(recipient));
     let forwarded = TrapAnswer::Forwarded(recipient);
     cores_layout::put_trap_result(result, forwarded.kind(), values);
-    cores_layout::put_wait(cores, core, Wait::Call(conduit, recipient));
+    lent_core::put_wait(cores, core, Wait::Call(conduit, recipient));
     cores_layout::put_counter(cores, counter);
     0
 }
@@ -75,7 +75,7 @@ fn try_memory_access_handler(
         Decoded::Access(access) => {
             let ipa = access.ipa;
             let found = policy_layout::find_region(policy, ipa);
-            let read = cores_layout::get_gpr(cores, core, access.register_index);
+            let read = lent_core::get_gpr(cores, core, access.register_index);
             data_abort::emulate_access(found, access, read.value(), counter)
         }
         Decoded::NoSyndrome => Emulated {
@@ -103,11 +103,11 @@ fn inject_data_abort(
         return answer(TrapAnswer::Refused(CoreError::NoGuestVector), result);
     }
     let counter = cores_layout::get_counter(cores);
-    let elr = cores_layout::get_elr(cores, core);
-    let spsr = cores_layout::get_spsr(cores, core);
+    let elr = lent_core::get_elr(cores, core);
+    let spsr = lent_core::get_spsr(cores, core);
     let to = data_abort::injection_of(elr, spsr, trap);
     let el1 = to.el1;
-    cores_layout::put_return(cores, core, to.elr, to.spsr, el1);
+    lent_core::put_return(cores, core, to.elr, to.spsr, el1);
     cores_layout::put_counter(cores, counter);
     answer(TrapAnswer::AbortInjected, result)
 }
@@ -131,12 +131,12 @@ fn handle_data_abort(
     let outcome = emulated.outcome;
     match outcome {
         AccessOutcome::Loaded(register_index, value) => {
-            cores_layout::put_load(cores, core, register_index, value);
+            lent_core::put_load(cores, core, register_index, value);
             cores_layout::put_counter(cores, emulated.counter);
             answer(TrapAnswer::AccessHandled(MemoryAccessKind::Read), result)
         }
         AccessOutcome::Stored => {
-            cores_layout::put_advanced(cores, core);
+            lent_core::put_advanced(cores, core);
             cores_layout::put_counter(cores, emulated.counter);
             answer(TrapAnswer::AccessHandled(MemoryAccessKind::Write), result)
         }
@@ -189,7 +189,7 @@ pub fn trap(
     if LAST_CORE < core {
         return answer(TrapAnswer::Refused(CoreError::NoSuchCore), result);
     }
-    match cores_layout::get_wait(cores, core) {
+    match lent_core::get_wait(cores, core) {
         Wait::Call(_, _) => answer(TrapAnswer::Refused(CoreError::CoreWaiting), result),
         Wait::Nothing => dispatch(policy, cores, core, trap, result),
     }

@@ -21,7 +21,7 @@ use Rattle.hypervisor.specs.Answers.{coreNumber, replyAnswer}
 use Rattle.hypervisor.specs.Cores.{onCore, saveCore, saveOn, replyOn, replyStep}
 use Rattle.words.specs.Words.{wordAt, wordsAt, Bytes}
 use Rattle.cores_layout.specs.Layout.{coresAt, withCore}
-use Rattle.cores_layout.proofs.InPlace.{gpr-kept}
+use Rattle.lent_core.proofs.InPlace.{gpr-kept}
 use Rattle.lent_trap.proofs.Laws.{same-core, replaced}
 use Rattle.ritm.specs.Interface.{Left, unlessRefused, steppedCore, saveCall, replyCall, writeCall}
 

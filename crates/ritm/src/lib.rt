@@ -208,7 +208,7 @@ pub extern "C" fn ritm_read_gpr(
         words::put_one_word(result, 0);
         return CoreError::NoSuchCore.number();
     }
-    let read = cores_layout::get_gpr(cores, core, index as usize);
+    let read = lent_core::get_gpr(cores, core, index as usize);
     words::put_one_word(result, read.value());
     read.number()
 }
@@ -229,7 +229,7 @@ pub extern "C" fn ritm_write_gpr(
     }
     // A refusal stores the core as it stands: of bytes, that changes nothing.
     words::are_bytes(cores);
-    cores_layout::put_gpr(cores, core, index as usize, value).number()
+    lent_core::put_gpr(cores, core, index as usize, value).number()
 }
 
 // Holds an entry under a key, in place of the key's last one: refusal 16.

@@ -1,0 +1,2 @@
+-- Laws of one core of lent bytes, in place.
+pub mod InPlace

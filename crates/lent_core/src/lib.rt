@@ -1,0 +1,178 @@
+// One core of the bytes that a host lends, in place: the words that a step asks for are read and stored, and no others. A core above 7 reads as a fresh
+// one and takes no store.
+ghost use mathlib.Core.Path.{_≡_};
+ghost use mathlib.Core.List.{_++_};
+ghost use Prim.Native.Nat.{_+_, _-_, _*_, _%_, _^_, _<_, min};
+ghost use mathlib.Core.Bool.{cond};
+ghost use lib.Dec.{ltb};
+ghost use lib.ListN.{getD, take, replicate};
+ghost use Rattle.words.specs.Words.{wordAt, withWord};
+ghost use Rattle.exceptions.specs.Registers.{freshCore, advancePc, readGpr, writeGpr};
+ghost use Rattle.cores_layout.specs.Layout.{coresAt, withCore};
+use cores_layout::CORES_SIZE;
+use exceptions::FaultRegisters;
+use exceptions::GprRead;
+use exceptions::GprWrite;
+use exceptions::Wait;
+
+// Of an instruction, in bytes.
+const INSTRUCTION_LENGTH: u64 = 4;
+
+// One word of a core, 0 where there is no core of that number.
+fn get_at(cores: &[u8; CORES_SIZE], core: u64, word: usize) -> u64
+    requires { ⌜ word < 38 ⌝ }
+    ensures { λ r. ⌜ r ≡ cond (ltb 7 core) 0 (wordAt (now (cores .entry)) (38 * core + word)) ⌝ }
+{
+    if core < 8 {
+        words::get_word(cores, 38 * core as usize + word)
+    } else {
+        0
+    }
+}
+
+// What a core waits for.
+pub fn get_wait(cores: &[u8; CORES_SIZE], core: u64) -> Wait
+    ensures { λ r. ⌜ r ≡ getD (coresAt (now (cores .entry))) core freshCore .wait ⌝ }
+{
+    cores_layout::wait_of(get_at(cores, core, 37))
+}
+
+// A core's ELR.
+pub fn get_elr(cores: &[u8; CORES_SIZE], core: u64) -> u64
+    ensures { λ r. ⌜ r ≡ getD (coresAt (now (cores .entry))) core freshCore .elr ⌝ }
+{
+    get_at(cores, core, 31)
+}
+
+// A core's SPSR.
+pub fn get_spsr(cores: &[u8; CORES_SIZE], core: u64) -> u64
+    ensures { λ r. ⌜ r ≡ getD (coresAt (now (cores .entry))) core freshCore .spsr ⌝ }
+{
+    get_at(cores, core, 32)
+}
+
+// The value of a guest register.
+pub fn get_gpr(cores: &[u8; CORES_SIZE], core: u64, index: usize) -> GprRead
+    ensures { λ r. ⌜ r ≡ readGpr (getD (coresAt (now (cores .entry))) core freshCore) index ⌝ }
+{
+    match index {
+        0..=30 => GprRead::Value(get_at(cores, core, index)),
+        31 => GprRead::Value(0),
+        _ => GprRead::NoSuchRegister,
+    }
+}
+
+// The first registers, zeros past them.
+pub fn get_first(cores: &[u8; CORES_SIZE], core: u64, count: usize) -> [u64; 18]
+    ensures { λ r. ⌜ r ≡ take (min count 18) (getD (coresAt (now (cores .entry))) core freshCore .x) ++ replicate (18 - min count 18) 0 ⌝ }
+{
+    let mut first = [0u64; 18];
+    let held = lists::held_count(count as u64, 18) as usize;
+    let mut i: usize = 0;
+    while i < held {
+        first[i] = get_at(cores, core, i);
+        i += 1;
+    }
+    first
+}
+
+// Stores one word of a core, and nothing where there is no core of that number.
+fn put_at(cores: &mut [u8; CORES_SIZE], core: u64, word: usize, value: u64)
+    requires { ⌜ word < 38 ⌝ }
+    ensures { λ _. ⌜ now (cores .exit) ≡ cond (ltb 7 core) (now (cores .entry)) (withWord (now (cores .entry)) (38 * core + word) value) ⌝ }
+{
+    if core < 8 {
+        words::put_word(cores, 38 * core as usize + word, value);
+    }
+}
+
+// Stores an ELR past the instruction that it stands at.
+fn put_past(cores: &mut [u8; CORES_SIZE], core: u64, elr: u64)
+    ensures { λ _. ⌜ now (cores .exit) ≡ cond (ltb 7 core) (now (cores .entry)) (withWord (now (cores .entry)) (38 * core + 31) ((elr + 4) % 2 ^ 64)) ⌝ }
+{
+    let past = std::num::wrapping_add_u64(elr, INSTRUCTION_LENGTH);
+    put_at(cores, core, 31, past);
+}
+
+// A core past the instruction that trapped. Here and below, the core's words that are not stored stand as they would be stored, since they are bytes.
+pub fn put_advanced(cores: &mut [u8; CORES_SIZE], core: u64)
+    ensures { λ _. ⌜ now (cores .exit)
+        ≡ cond (ltb 7 core) (now (cores .entry)) (withCore (now (cores .entry)) core (advancePc (getD (coresAt (now (cores .entry))) core freshCore))) ⌝ }
+{
+    words::are_bytes(cores);
+    let elr = get_elr(cores, core);
+    put_past(cores, core, elr);
+}
+
+// Writes a guest register.
+pub fn put_gpr(cores: &mut [u8; CORES_SIZE], core: u64, index: usize, value: u64) -> GprWrite
+    ensures { λ r. ⌜ (r ≡ writeGpr (getD (coresAt (now (cores .entry))) core freshCore) index value .answer)
+        × (now (cores .exit)
+        ≡ cond (ltb 7 core) (now (cores .entry)) (withCore (now (cores .entry)) core (writeGpr (getD (coresAt (now (cores .entry))) core freshCore) index value .core))) ⌝ }
+{
+    words::are_bytes(cores);
+    match index {
+        0..=30 => {
+            put_at(cores, core, index, value);
+            GprWrite::Accepted
+        }
+        31 => GprWrite::Accepted,
+        _ => GprWrite::GuestRegisterWriteError,
+    }
+}
+
+// A load is done: its register takes the value, and ELR moves past the instruction.
+pub fn put_load(cores: &mut [u8; CORES_SIZE], core: u64, index: usize, value: u64)
+    ensures { λ _. ⌜ now (cores .exit)
+        ≡ cond (ltb 7 core) (now (cores .entry)) (withCore (now (cores .entry)) core (advancePc (writeGpr (getD (coresAt (now (cores .entry))) core freshCore) index value .core))) ⌝ }
+{
+    let trapped = get_elr(cores, core);
+    put_gpr(cores, core, index, value);
+    put_past(cores, core, trapped);
+}
+
+// Stores what a core waits for.
+pub fn put_wait(cores: &mut [u8; CORES_SIZE], core: u64, wait: Wait)
+    ensures { λ _. ⌜ now (cores .exit)
+        ≡ cond (ltb 7 core) (now (cores .entry)) (withCore (now (cores .entry)) core (record {
+          x = getD (coresAt (now (cores .entry))) core freshCore .x;
+          elr = getD (coresAt (now (cores .entry))) core freshCore .elr;
+          spsr = getD (coresAt (now (cores .entry))) core freshCore .spsr;
+          el1 = getD (coresAt (now (cores .entry))) core freshCore .el1;
+          wait = wait;
+        })) ⌝ }
+{
+    words::are_bytes(cores);
+    if core < 8 {
+        let at = 38 * core as usize + 37;
+        let code = words::kept_code(
+            words::get_word(cores, at),
+            5,
+            cores_layout::wait_number(wait),
+        );
+        words::put_word(cores, at, code);
+    }
+}
+
+// Stores a core's ELR, SPSR and EL1 registers, as an injected abort sets them.
+pub fn put_return(cores: &mut [u8; CORES_SIZE], core: u64, elr: u64, spsr: u64, el1: FaultRegisters)
+    ensures { λ _. ⌜ now (cores .exit)
+        ≡ cond (ltb 7 core) (now (cores .entry)) (withCore (now (cores .entry)) core (record {
+          x = getD (coresAt (now (cores .entry))) core freshCore .x;
+          elr = elr;
+          spsr = spsr;
+          el1 = el1;
+          wait = getD (coresAt (now (cores .entry))) core freshCore .wait;
+        })) ⌝ }
+{
+    words::are_bytes(cores);
+    if core < 8 {
+        let at = 38 * core as usize;
+        words::put_word(cores, at + 31, elr);
+        words::put_word(cores, at + 32, spsr);
+        words::put_word(cores, at + 33, el1.elr);
+        words::put_word(cores, at + 34, el1.spsr);
+        words::put_word(cores, at + 35, el1.far);
+        words::put_word(cores, at + 36, el1.esr);
+    }
+}
