@@ -107,14 +107,20 @@ pub mod stage2 {
             }
         }
 
-        /// Base, size and end of each allowed range in its place, and its attributes, which RITM keeps in the page
-        /// table alone.
-        pub fn ranges(&self) -> impl Iterator<Item = [u64; 4]> {
-            let mapped = self.idmap.mapped().iter();
-            self.allowed_ranges
-                .iter()
-                .zip(mapped)
-                .map(|(range, mapped)| [range.base_ipa, range.size as u64, range.end_ipa, mapped.2.bits() as u64])
+        /// Puts back what `before` has, but for what the page table notes: for a benchmark, where it notes nothing.
+        pub fn put_back(&mut self, before: &Self) {
+            self.memory_access_handlers.regions = before.memory_access_handlers.regions;
+            self.allowed_ranges = before.allowed_ranges;
+        }
+
+        /// Base, size and end of each allowed range in its place.
+        pub fn ranges(&self) -> impl Iterator<Item = [u64; 3]> {
+            self.allowed_ranges.iter().map(|range| [range.base_ipa, range.size as u64, range.end_ipa])
+        }
+
+        /// Attributes of each allowed range in its place, which RITM keeps in the page table alone.
+        pub fn attributes(&self) -> impl Iterator<Item = u64> {
+            self.idmap.mapped().iter().map(|mapped| mapped.2.bits() as u64)
         }
 
         /// Each region in its place, and its stored end.

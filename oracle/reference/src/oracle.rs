@@ -17,6 +17,9 @@ use std::cell::Cell;
 use std::sync::atomic::{AtomicBool, Ordering};
 use std::sync::{Mutex, MutexGuard, PoisonError};
 
+/// Whether what RITM hands to the stubs is noted.
+pub const NOTES: bool = cfg!(feature = "notes");
+
 /// A core's registers, and the EL1 registers that an injected abort writes.
 #[derive(Clone, Copy, Debug, Default, Eq, PartialEq)]
 pub struct Core {
@@ -89,7 +92,26 @@ fn noted_write(access: MemoryWriteAccess) -> MemoryWriteResult {
     result
 }
 
-/// The platform: Qemu's, but that while an [`Oracle`] is held calls are noted and answered with what was set.
+/// The call that Qemu's platform answers with one value, and its answer.
+pub const CALL_FOR_1: u64 = 0xFF00_0000;
+pub const REPLY_OF_1: u64 = 0x1234_5678_9ABC_DEF0;
+/// Calls that a benchmark makes, and the replies: Qemu's platform has none of four or eighteen values. As there, a reply
+/// is a constant. Its first value is the call, so that a guest can make the call again.
+pub const CALL_FOR_4: u64 = 0xFF00_0004;
+pub const REPLY_OF_4: [u64; 4] = [CALL_FOR_4, 0xAB01, 0xAB02, 0xAB03];
+pub const CALL_FOR_18: u64 = 0xFF00_0018;
+pub const REPLY_OF_18: [u64; 18] = {
+    let mut values = [CALL_FOR_18; 18];
+    let mut k = 1;
+    while k < 18 {
+        values[k] = 0xAB00 + k as u64;
+        k += 1;
+    }
+    values
+};
+
+/// The platform: Qemu's with two more calls, but that while an [`Oracle`] is held calls are noted and answered with what
+/// was set.
 pub struct PlatformImpl;
 
 impl PlatformImpl {
@@ -124,25 +146,34 @@ impl Platform for PlatformImpl {
     }
 
     fn handle_hvc(function_id: u64, args: &[u64]) -> HvcResult {
-        if !HELD.load(Ordering::Relaxed) {
-            return Qemu::handle_hvc(function_id, args);
+        if NOTES && HELD.load(Ordering::Relaxed) {
+            return noted_hvc(function_id, args);
         }
-        let mut registers = [0; 18];
-        registers[0] = function_id;
-        registers[1..].copy_from_slice(args);
-        PLATFORM_CALL.set(Some(registers));
-        match REPLY.get() {
-            Reply::Unhandled => HvcResult::Unhandled,
-            Reply::One(value) => HvcResult::Handled(Ok(value.into())),
-            Reply::Four(values) => HvcResult::Handled(Ok(values.into())),
-            Reply::Eighteen(values) => HvcResult::Handled(Ok(values.into())),
-            Reply::Error(code) => HvcResult::Handled(Err(code.into())),
+        match function_id {
+            CALL_FOR_4 => HvcResult::Handled(Ok(REPLY_OF_4.into())),
+            CALL_FOR_18 => HvcResult::Handled(Ok(REPLY_OF_18.into())),
+            _ => Qemu::handle_hvc(function_id, args),
         }
     }
 }
 
+/// A call to the platform, noted and answered with what was set.
+fn noted_hvc(function_id: u64, args: &[u64]) -> HvcResult {
+    let mut registers = [0; 18];
+    registers[0] = function_id;
+    registers[1..].copy_from_slice(args);
+    PLATFORM_CALL.set(Some(registers));
+    match REPLY.get() {
+        Reply::Unhandled => HvcResult::Unhandled,
+        Reply::One(value) => HvcResult::Handled(Ok(value.into())),
+        Reply::Four(values) => HvcResult::Handled(Ok(values.into())),
+        Reply::Eighteen(values) => HvcResult::Handled(Ok(values.into())),
+        Reply::Error(code) => HvcResult::Handled(Err(code.into())),
+    }
+}
+
 /// The number of a builder's answer; 0 is accepted.
-fn number(result: Result<(), Stage2ConfigError>) -> u64 {
+pub fn number(result: Result<(), Stage2ConfigError>) -> u64 {
     use Stage2ConfigError as Error;
     match result {
         Ok(()) => 0,
@@ -179,7 +210,12 @@ impl Drop for Oracle {
 
 impl Oracle {
     /// No range, no region, and this counter.
+    ///
+    /// # Panics
+    ///
+    /// If nothing is noted, which an `Oracle` needs.
     pub fn fresh(counter: u64) -> Self {
+        assert!(NOTES, "the crate was built without the feature notes");
         let alone = ALONE.lock().unwrap_or_else(PoisonError::into_inner);
         HELD.store(true, Ordering::Relaxed);
         let oracle = Self { builder: Stage2Builder::new(), _alone: alone };
@@ -225,7 +261,7 @@ impl Oracle {
 
     /// Base, size, end and attributes of each allowed range.
     pub fn ranges(&self) -> impl Iterator<Item = [u64; 4]> {
-        self.builder.ranges()
+        self.builder.ranges().zip(self.builder.attributes()).map(|([base, size, end], word)| [base, size, end, word])
     }
 
     /// Base, size and end of each region, and whether it has a read half and a write half.
@@ -264,8 +300,13 @@ impl Oracle {
     }
 }
 
+/// Sets what the firmware answers, for a benchmark.
+pub fn set_firmware_answer(value: u64) {
+    set_reply(Reply::One(value));
+}
+
 /// What the hardware holds when the trap is taken.
-fn set_system_registers(core: &Core, trap: Trap) {
+pub fn set_system_registers(core: &Core, trap: Trap) {
     sys::set_esr_el2(sys::EsrEl2::from_bits_retain(trap.esr));
     sys::set_hpfar_el2(sys::HpfarEl2::from_bits_retain(trap.fipa));
     sys::set_far_el2(sys::FarEl2::from_bits_retain(trap.far));

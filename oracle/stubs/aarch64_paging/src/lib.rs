@@ -1,4 +1,6 @@
 //! Stands for `aarch64-paging`: page tables that only note what was mapped. `map_range` accepts every range.
+//!
+//! Without the feature `notes` nothing is noted: RITM hands its arguments over, and nothing is done with them.
 #![no_std]
 
 pub type MapError = paging::MapError;
@@ -52,11 +54,14 @@ pub mod idmap {
         /// None: where the real crate refuses, this one does not.
         #[inline]
         pub fn map_range(&mut self, range: &MemoryRegion, attributes: Stage2Attributes) -> Result<(), MapError> {
+            #[cfg(feature = "notes")]
             self.mapped.push((range.0, range.1, attributes));
+            #[cfg(not(feature = "notes"))]
+            core::hint::black_box((range.0, range.1, attributes));
             Ok(())
         }
 
-        /// Start, end and attributes of each range, as it was mapped.
+        /// Start, end and attributes of each range, as it was mapped and noted.
         pub fn mapped(&self) -> &[(usize, usize, Stage2Attributes)] {
             &self.mapped
         }

@@ -1,4 +1,6 @@
 //! Stands for `arm-psci` with no parsing: each call is noted, and either forwarded to the monitor or refused, as was set.
+//!
+//! Without the feature `notes` nothing is noted: RITM hands the call over, and nothing is done with it.
 
 use std::cell::Cell;
 
@@ -7,7 +9,7 @@ thread_local! {
     static REFUSAL: Cell<Option<i32>> = const { Cell::new(None) };
 }
 
-/// x0 to x3 of the last call, which is then forgotten.
+/// x0 to x3 of the last call that was noted, which is then forgotten.
 pub fn take_call() -> Option<[u64; 4]> {
     CALL.take()
 }
@@ -111,7 +113,10 @@ impl TryFrom<&[u64; 4]> for Function {
 
     #[inline]
     fn try_from(call: &[u64; 4]) -> Result<Self, Error> {
+        #[cfg(feature = "notes")]
         CALL.set(Some(*call));
+        #[cfg(not(feature = "notes"))]
+        std::hint::black_box(call);
         match REFUSAL.get() {
             Some(code) => Err(Error(code)),
             None => Ok(Self::Version),

@@ -1,4 +1,6 @@
 //! Stands for `smccc`: a secure monitor that notes a call and answers what was set.
+//!
+//! Without the feature `notes` nothing is noted: RITM hands the call over, and nothing is done with it.
 #![no_std]
 
 use core::cell::Cell;
@@ -17,7 +19,7 @@ pub fn set_answer(x0: u64) {
     ANSWER.store(x0, Ordering::Relaxed);
 }
 
-/// x0 to x17 of the last call, which is then forgotten.
+/// x0 to x17 of the last call that was noted, which is then forgotten.
 pub fn take_call() -> Option<[u64; 18]> {
     CALL.take()
 }
@@ -33,13 +35,24 @@ impl Call for Smc {}
 /// Calls the monitor with a function in x0 and x1 to x17.
 #[inline]
 pub fn smc64(function: u32, args: [u64; 17]) -> [u64; 18] {
-    let mut registers = [0; 18];
-    registers[0] = function.into();
-    registers[1..].copy_from_slice(&args);
-    CALL.set(Some(registers));
+    note(function, &args);
     let mut results = [0; 18];
     results[0] = ANSWER.load(Ordering::Relaxed);
     results
+}
+
+#[cfg(feature = "notes")]
+fn note(function: u32, args: &[u64; 17]) {
+    let mut registers = [0; 18];
+    registers[0] = function.into();
+    registers[1..].copy_from_slice(args);
+    CALL.set(Some(registers));
+}
+
+#[cfg(not(feature = "notes"))]
+#[inline]
+fn note(function: u32, args: &[u64; 17]) {
+    core::hint::black_box((function, args));
 }
 
 /// The Arm Architecture Calls.
