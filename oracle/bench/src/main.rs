@@ -22,7 +22,7 @@
 //! - RITM answers a forwarded call in one step, the port in two: the port's trap and its reply are compared with one
 //!   `handle_sync_lower`. What the port alone has, or what is half of RITM's step, has no ratio.
 //! - Both sides are release builds: this workspace's profile (no checks of sums, no LTO across crates, the default
-//!   codegen units), and the archive as `rt staticlib` makes it.
+//!   codegen units), and the archive as `rt staticlib` makes it. CARGO_PROFILE_RELEASE_LTO=fat measures RITM with LTO.
 //!
 //! RITM's environment is stubs. What RITM hands to them is made, and nothing is done with it: no page table is written, no
 //! PSCI call is parsed, no monitor is called; messages are dropped. The platform is Qemu's, which answers with a constant
