@@ -38,8 +38,8 @@ returns : tie.Need-returns
 unfolding forwardCall withWait readGpr
 returns c =
     let s = c .before .before .before .before in
-    let f = s .before .before .before .before in
-    let a = f .before .before .before .before .before .before .before .before .args in (
+    let f = s .before .before .before .before .before in
+    let a = f .before .before .before .before .before .before .args in (
       refl,
       rw (
         c .put-counter .ensures,
