@@ -10,7 +10,7 @@ ghost use Rattle.cores_layout.specs.Layout.{coresAt, counterAt};
 ghost use Rattle.stage2.specs.Policy.{regionsHeld};
 ghost use Rattle.exceptions.specs.Registers.{freshCore};
 ghost use Rattle.data_abort.specs.DataAbort.{tryMemoryAccess, injectDataAbort, handleDataAbort};
-ghost use Rattle.forwarded_call.specs.ForwardedCall.{registersFor, forwardedValues, forwardCall};
+ghost use Rattle.forwarded_call.specs.ForwardedCall.{forwardCall};
 ghost use Rattle.hypervisor.specs.Answers.{trapNumber, trapKind, noValues, forwarded};
 ghost use Rattle.hypervisor.specs.Trap.{exceptionClass, byClass};
 ghost use Rattle.lent_trap.specs.LentTrap.{trapCall, trappedOne, abortStep};
@@ -20,7 +20,6 @@ use data_abort::AccessOutcome;
 use data_abort::Emulated;
 use data_abort::TrapRegisters;
 use exceptions::Conduit;
-use exceptions::Recipient;
 use exceptions::Wait;
 use hypervisor::CoreError;
 use hypervisor::ExceptionClass;
@@ -35,16 +34,6 @@ fn answer(answer: TrapAnswer, result: &mut [u8; TRAP_RESULT_SIZE]) -> u64
 {
     cores_layout::put_trap_result(result, answer.kind(), [0u64; 18]);
     answer.number()
-}
-
-// The registers that a recipient is handed. Each count is a literal, so that the copy compiles to one of fixed length.
-fn forwarded_values(cores: &[u8; CORES_SIZE], core: u64, recipient: Recipient) -> [u64; 18]
-    ensures { λ r. ⌜ r ≡ forwardedValues (getD (coresAt (now (cores .entry))) core freshCore .x) (registersFor recipient) ⌝ }
-{
-    match recipient {
-        Recipient::Firmware => lent_core::get_first(cores, core, 4),
-        Recipient::Platform => lent_core::get_first(cores, core, 18),
-    }
 }
 
 // Hands a call out: the core waits, and the result has its registers.
@@ -64,7 +53,7 @@ fn forward_call(
     let counter = cores_layout::get_counter(cores);
     let function_id = lent_core::get_gpr(cores, core, 0);
     let recipient = forwarded_call::recipient_of(function_id.value());
-    let values = forwarded_values(cores, core, recipient);
+    let values = lent_core::get_first(cores, core, forwarded_call::registers_for(recipient));
     let forwarded = TrapAnswer::Forwarded(recipient);
     cores_layout::put_trap_result(result, forwarded.kind(), values);
     lent_core::put_wait(cores, core, Wait::Call(conduit, recipient));

@@ -1,11 +1,19 @@
 use native.Mathlib.Omega.{arith}
 use borrow.Author.Needs.{needs}
-use mathlib.Core.Path.{refl}
+use mathlib.Core.Path.{_≡_, refl}
+use Prim.Native.Nat.{min}
 use borrow.Author.Tests.{le-ltb}
+use Rattle.exceptions.specs.declared.Recipient.{Recipient}
+use Rattle.exceptions.specs.declared.Recipient.the-variants.{Firmware, Platform}
 use Rattle.exceptions.specs.Registers.{readGpr}
-use Rattle.forwarded_call.specs.ForwardedCall.{withWait, forwardCall}
+use Rattle.forwarded_call.specs.ForwardedCall.{registersFor, forwardedValues, withWait, forwardCall}
 use Rattle.lent_trap.proofs.forward_call.Statement.{statement}
 use Rattle.lent_trap.proofs.forward_call.Tie as tie
+
+-- no recipient takes more than eighteen registers
+fits-eighteen : (recipient : Recipient) → min (registersFor recipient) 18 ≡ registersFor recipient
+fits-eighteen Firmware = refl
+fits-eighteen Platform = refl
 
 get-counter-requires : tie.Need-get-counter-requires
 get-counter-requires c κs = search needs
@@ -19,8 +27,11 @@ value-requires c κs = search needs
 recipient-of-requires : tie.Need-recipient-of-requires
 recipient-of-requires c κs = search needs
 
-forwarded-values-requires : tie.Need-forwarded-values-requires
-forwarded-values-requires c κs = search needs
+registers-for-requires : tie.Need-registers-for-requires
+registers-for-requires c κs = search needs
+
+get-first-requires : tie.Need-get-first-requires
+get-first-requires c κs = search needs
 
 kind-requires : tie.Need-kind-requires
 kind-requires c κs = search needs
@@ -35,28 +46,30 @@ put-counter-requires : tie.Need-put-counter-requires
 put-counter-requires c κs = search needs
 
 returns : tie.Need-returns
-unfolding forwardCall withWait readGpr
+unfolding forwardCall withWait forwardedValues readGpr
 returns c =
     let s = c .before .before .before .before in
-    let f = s .before .before .before .before .before in
-    let a = f .before .before .before .before .before .before .args in (
+    let f = s .before .before .before .before in
+    let a = f .before .before .before .before .before .before .before .before .args in (
       refl,
       rw (
         c .put-counter .ensures,
         c .before .before .put-wait .ensures,
         le-ltb 7 (a .core) (omega arith),
-        f .recipient-of .ensures,
-        f .before .value .ensures,
-        f .before .before .get-gpr .ensures,
-        f .before .before .before .before .get-counter .ensures,
+        f .before .before .recipient-of .ensures,
+        f .before .before .before .value .ensures,
+        f .before .before .before .before .get-gpr .ensures,
+        f .before .before .before .before .before .before .get-counter .ensures,
       ),
       rw (
         s .put-trap-result .ensures,
         s .before .kind .ensures,
-        s .before .before .before .forwarded-values .ensures,
-        f .recipient-of .ensures,
-        f .before .value .ensures,
-        f .before .before .get-gpr .ensures,
+        s .before .before .before .get-first .ensures,
+        f .registers-for .ensures,
+        fits-eighteen (f .before .before .recipient-of .result),
+        f .before .before .recipient-of .ensures,
+        f .before .before .before .value .ensures,
+        f .before .before .before .before .get-gpr .ensures,
       ),
     )
 
@@ -68,7 +81,8 @@ forward-call-spec =
     get-gpr-requires
     value-requires
     recipient-of-requires
-    forwarded-values-requires
+    registers-for-requires
+    get-first-requires
     kind-requires
     put-trap-result-requires
     put-wait-requires
