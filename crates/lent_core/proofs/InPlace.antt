@@ -1,6 +1,6 @@
 -- Laws of one core's words in place: of any number a word reads as the core's field or a fresh core's, and a core of which some words differ is
 -- stored by the stores of those words. Assumes nothing.
-use Prim.Native.Nat.{ℕ, zero, suc, _+_, _-_, _*_, _%_, _^_, _<_, _≤_}
+use Prim.Native.Nat.{ℕ, zero, suc, _+_, _-_, _*_, _%_, _^_, _<_, _≤_, min}
 use mathlib.Core.Path.{_≡_, refl, sym, ap, _∙_}
 use mathlib.Core.Bool.{Bool, true, false, cond}
 use mathlib.Core.List.{List, [], _∷_, _++_, append-assoc}
@@ -9,7 +9,7 @@ use native.Mathlib.Numerals.{add-one}
 use native.Mathlib.Nat.{zero-add}
 use borrow.Author.Tests.{ltb-true, ltb-false, lt-ltb, le-ltb}
 use lib.Dec.{eqb, ltb}
-use lib.ListN.{length, getD, set, take, replicate, length-set}
+use lib.ListN.{length, getD, set, take, replicate, length-set, length-append, length-replicate, List·getD-append}
 use lib.Seq.{set-at, set-append-left}
 use Rattle.lists.proofs.Laws.{cond-all, cond-same}
 use Rattle.words.specs.Words.{wordAt, withWord, each, wordsAt, withWords, keptCode, readCode, Bytes}
@@ -52,20 +52,44 @@ take-each f k n zero h = refl
 take-each f k zero (suc m) h = absurd (omega arith)
 take-each f k (suc n) (suc m) h = ap (_∷_ (f k)) (take-each f (suc k) n m (omega arith))
 
--- A loop that reads the first registers into zeros: the first `k` are read.
-pub first-next : (f : ℕ → ℕ) (n k v : ℕ) → k < n → v ≡ f k → set (each f 0 k ++ replicate (n - k) 0) k v ≡ each f 0 (k + 1) ++ replicate (n - (k + 1)) 0
-first-next f n k v h e =
-    let left : n - k ≡ suc (n - (k + 1)) = omega arith in
-    let past : List ℕ = replicate (n - (k + 1)) 0 in
-    let read : each f 0 (k + 1) ≡ each f 0 k ++ (v ∷ []) =
-    ap (each f 0) (add-one k) ∙ each-snoc f 0 k ∙ ap (λ (w : ℕ). each f 0 k ++ (w ∷ [])) (ap f (zero-add k) ∙ sym e) in
-    ap (λ (m : ℕ). set (each f 0 k ++ replicate m 0) k v) left
-    ∙ set-at (each f 0 k) 0 past v k (length-each f 0 k)
-    ∙ sym (ap (λ (l : List ℕ). l ++ past) read ∙ append-assoc (each f 0 k) (v ∷ []) past)
+-- The first registers of a core, zeros past them.
+module _ (b : List ℕ) (i count : ℕ) where
+  abbrev word : ℕ → ℕ
+  word j = cond (ltb 7 i) 0 (wordAt b (38 * i + j))
 
--- in the end they are the core's
-pub first-done : (b : List ℕ) (i m : ℕ) → m ≤ 31 → each (λ j. cond (ltb 7 i) 0 (wordAt b (38 * i + j))) 0 m ≡ take m (getD (coresAt b) i freshCore .x)
-first-done b i m h = sym (ap (take m) (core-x b i) ∙ take-each (λ j. cond (ltb 7 i) 0 (wordAt b (38 * i + j))) 0 31 m h)
+  -- of which there are eighteen
+  abbrev pub firstOf : List ℕ
+  firstOf = take (min count 18) (getD (coresAt b) i freshCore .x) ++ replicate (18 - min count 18) 0
+
+  first-words : firstOf ≡ each word 0 (min count 18) ++ replicate (18 - min count 18) 0
+  first-words = ap (λ (l : List ℕ). l ++ replicate (18 - min count 18) 0) (ap (take (min count 18)) (core-x b i) ∙ take-each word 0 31 (min count 18) (omega arith))
+
+  pub length-first : length firstOf ≡ 18
+  length-first =
+      ap length first-words
+      ∙ length-append (each word 0 (min count 18)) (replicate (18 - min count 18) 0)
+      ∙ omega (arith, length-each word 0 (min count 18), length-replicate {A = ℕ} (18 - min count 18) 0)
+
+  -- one that is a register, and one past them
+  pub first-within : (k : ℕ) → k < min count 18 → getD firstOf k 0 ≡ word k
+  first-within k h =
+      ap (λ (l : List ℕ). getD l k 0) first-words
+      ∙ List·getD-append (each word 0 (min count 18)) (replicate (18 - min count 18) 0) 0 k (omega (arith, length-each word 0 (min count 18)))
+      ∙ getD-each word 0 (min count 18) k 0 h
+      ∙ ap word (zero-add k)
+
+  pub first-past : (k : ℕ) → min count 18 ≤ k → getD firstOf k 0 ≡ 0
+  first-past k h = ap (λ (l : List ℕ). getD l k 0) first-words ∙ past (each word 0 (min count 18)) (18 - min count 18) k (omega (arith, length-each word 0 (min count 18)))
+    where
+      zeros : (n k : ℕ) → getD (replicate {A = ℕ} n 0) k 0 ≡ 0
+      zeros zero k = refl
+      zeros (suc n) zero = refl
+      zeros (suc n) (suc k) = zeros n k
+
+      past : (xs : List ℕ) (n k : ℕ) → length xs ≤ k → getD (xs ++ replicate n 0) k 0 ≡ 0
+      past [] n k h = zeros n k
+      past (x ∷ xs) n zero h = absurd (omega arith)
+      past (x ∷ xs) n (suc k) h = past xs n k (omega arith)
 
 -- to write what a word means keeps the word
 wait-kept : (w : ℕ) → keptCode 5 w (waitNumber (waitOf w)) ≡ w

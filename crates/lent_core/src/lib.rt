@@ -1,15 +1,16 @@
 // One core of the bytes that a host lends, in place: the words that a step asks for are read and stored, and no others. A core above 7 reads as a fresh
 // one and takes no store.
 ghost use mathlib.Core.Path.{_≡_};
-ghost use mathlib.Core.List.{_++_};
+ghost use mathlib.Core.List.{_∷_, _++_};
 ghost use Prim.Native.Nat.{_+_, _-_, _*_, _%_, _^_, _<_, min};
 ghost use mathlib.Core.Bool.{cond};
 ghost use lib.Dec.{ltb};
 ghost use lib.ListN.{getD, take, replicate};
-ghost use Rattle.words.specs.Words.{wordAt, withWord};
+ghost use Rattle.words.specs.Words.{wordAt, withWord, bytesOf};
 ghost use Rattle.exceptions.specs.Registers.{freshCore, advancePc, readGpr, writeGpr};
 ghost use Rattle.cores_layout.specs.Layout.{coresAt, withCore};
 use cores_layout::CORES_SIZE;
+use cores_layout::TRAP_RESULT_SIZE;
 use exceptions::FaultRegisters;
 use exceptions::GprRead;
 use exceptions::GprWrite;
@@ -62,18 +63,34 @@ pub fn get_gpr(cores: &[u8; CORES_SIZE], core: u64, index: usize) -> GprRead
     }
 }
 
-// The first registers, zeros past them.
-pub fn get_first(cores: &[u8; CORES_SIZE], core: u64, count: usize) -> [u64; 18]
-    ensures { λ r. ⌜ r ≡ take (min count 18) (getD (coresAt (now (cores .entry))) core freshCore .x) ++ replicate (18 - min count 18) 0 ⌝ }
+// One of the first `count` registers, zeros past them.
+fn first_at(cores: &[u8; CORES_SIZE], core: u64, count: usize, index: usize) -> u64
+    requires { ⌜ index < 18 ⌝ }
+    ensures { λ r. ⌜ r ≡ getD (take (min count 18) (getD (coresAt (now (cores .entry))) core freshCore .x) ++ replicate (18 - min count 18) 0) index 0 ⌝ }
 {
-    let mut first = [0u64; 18];
-    let held = lists::held_count(count as u64, 18) as usize;
+    if index < count {
+        get_at(cores, core, index)
+    } else {
+        0
+    }
+}
+
+// The result of a forwarded call: its kind, and the first registers, zeros past them.
+pub fn put_forwarded(
+    result: &mut [u8; TRAP_RESULT_SIZE],
+    kind: u64,
+    cores: &[u8; CORES_SIZE],
+    core: u64,
+    count: usize,
+)
+    ensures { λ _. ⌜ now (result .exit) ≡ bytesOf (kind ∷ (take (min count 18) (getD (coresAt (now (cores .entry))) core freshCore .x) ++ replicate (18 - min count 18) 0)) ⌝ }
+{
+    words::put_word(result, 0, kind);
     let mut i: usize = 0;
-    while i < held {
-        first[i] = get_at(cores, core, i);
+    while i < 18 {
+        words::put_word(result, i + 1, first_at(cores, core, count, i));
         i += 1;
     }
-    first
 }
 
 // Stores one word of a core, and nothing where there is no core of that number.

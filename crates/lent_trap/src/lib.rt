@@ -53,9 +53,9 @@ fn forward_call(
     let counter = cores_layout::get_counter(cores);
     let function_id = lent_core::get_gpr(cores, core, 0);
     let recipient = forwarded_call::recipient_of(function_id.value());
-    let values = lent_core::get_first(cores, core, forwarded_call::registers_for(recipient));
+    let count = forwarded_call::registers_for(recipient);
     let forwarded = TrapAnswer::Forwarded(recipient);
-    cores_layout::put_trap_result(result, forwarded.kind(), values);
+    lent_core::put_forwarded(result, forwarded.kind(), cores, core, count);
     lent_core::put_wait(cores, core, Wait::Call(conduit, recipient));
     cores_layout::put_counter(cores, counter);
     0

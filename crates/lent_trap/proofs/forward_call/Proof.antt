@@ -30,14 +30,11 @@ recipient-of-requires c κs = search needs
 registers-for-requires : tie.Need-registers-for-requires
 registers-for-requires c κs = search needs
 
-get-first-requires : tie.Need-get-first-requires
-get-first-requires c κs = search needs
-
 kind-requires : tie.Need-kind-requires
 kind-requires c κs = search needs
 
-put-trap-result-requires : tie.Need-put-trap-result-requires
-put-trap-result-requires c κs = search needs
+put-forwarded-requires : tie.Need-put-forwarded-requires
+put-forwarded-requires c κs = search needs
 
 put-wait-requires : tie.Need-put-wait-requires
 put-wait-requires c κs = search needs
@@ -50,26 +47,26 @@ unfolding forwardCall withWait forwardedValues readGpr
 returns c =
     let s = c .before .before .before .before in
     let f = s .before .before .before .before in
-    let a = f .before .before .before .before .before .before .before .before .args in (
+    let g = f .before in
+    let a = g .before .before .before .before .before .before .args in (
       refl,
       rw (
         c .put-counter .ensures,
         c .before .before .put-wait .ensures,
         le-ltb 7 (a .core) (omega arith),
-        f .before .before .recipient-of .ensures,
-        f .before .before .before .value .ensures,
-        f .before .before .before .before .get-gpr .ensures,
-        f .before .before .before .before .before .before .get-counter .ensures,
+        g .recipient-of .ensures,
+        g .before .value .ensures,
+        g .before .before .get-gpr .ensures,
+        g .before .before .before .before .get-counter .ensures,
       ),
       rw (
-        s .put-trap-result .ensures,
-        s .before .kind .ensures,
-        s .before .before .before .get-first .ensures,
+        s .put-forwarded .ensures,
+        s .before .before .kind .ensures,
         f .registers-for .ensures,
-        fits-eighteen (f .before .before .recipient-of .result),
-        f .before .before .recipient-of .ensures,
-        f .before .before .before .value .ensures,
-        f .before .before .before .before .get-gpr .ensures,
+        fits-eighteen (g .recipient-of .result),
+        g .recipient-of .ensures,
+        g .before .value .ensures,
+        g .before .before .get-gpr .ensures,
       ),
     )
 
@@ -82,9 +79,8 @@ forward-call-spec =
     value-requires
     recipient-of-requires
     registers-for-requires
-    get-first-requires
     kind-requires
-    put-trap-result-requires
+    put-forwarded-requires
     put-wait-requires
     put-counter-requires
     returns)

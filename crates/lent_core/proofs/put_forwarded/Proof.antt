@@ -1,0 +1,68 @@
+use native.Mathlib.Omega.{arith}
+use borrow.Author.Needs.{needs}
+use Prim.Native.Nat.{_+_, _-_}
+use mathlib.Core.Path.{refl, ap, _∙_}
+use mathlib.Core.List.{[], _∷_}
+use Rattle.words.specs.Words.{withWord}
+use Rattle.words.proofs.Words.{written-whole, Stored, stored-next, stored-done, store-later}
+use Rattle.lent_core.proofs.InPlace.{firstOf, length-first}
+use Rattle.lent_core.proofs.put_forwarded.Statement.{statement}
+use Rattle.lent_core.proofs.put_forwarded.Tie as tie
+
+abbrev Inv-loop : tie.InvT-loop
+Inv-loop result₀ kind cores core count i₀ result i = Stored (λ b j w. withWord b (j + 1) w) result₀ (firstOf cores core count) result i
+
+abbrev μ-loop : tie.MeasureT-loop
+μ-loop result₀ kind cores core count i₀ result i = 18 - i
+
+put-word-requires : tie.Need-put-word-requires Inv-loop μ-loop
+put-word-requires c κs = search needs
+
+loop-holds : tie.Need-loop-holds Inv-loop μ-loop
+loop-holds c = record { within = omega arith; done = refl }
+
+add-put-word : tie.Need-add-put-word Inv-loop μ-loop
+add-put-word c = omega arith
+
+first-at-requires : tie.Need-first-at-requires Inv-loop μ-loop
+first-at-requires c κs = omega arith
+
+put-word-requires-2 : tie.Need-put-word-requires-2 Inv-loop μ-loop
+put-word-requires-2 c κs = omega arith
+
+add-i : tie.Need-add-i Inv-loop μ-loop
+add-i c = omega arith
+
+loop-less : tie.Need-loop-less Inv-loop μ-loop
+loop-less c = omega arith
+
+loop-again : tie.Need-loop-again Inv-loop μ-loop
+loop-again c =
+    let a = c .before .before .before .before .before .before .before .args in
+    let fits = length-first (a .cores .now) (a .core) (a .count) in
+    stored-next (c .before .before .before .before .loop .inv) (omega (arith, fits)) 0 _ (rw (← c .before .first-at .ensures) (c .put-word2 .ensures))
+
+returns : tie.Need-returns Inv-loop μ-loop
+returns c =
+    let a = c .before .before .before .before .args in
+    let first = firstOf (a .cores .now) (a .core) (a .count) in
+    let fits = length-first (a .cores .now) (a .core) (a .count) in
+    stored-done (c .before .loop .inv) (omega (arith, fits))
+    ∙ store-later withWord _ 0 first
+    ∙ rw (c .before .before .put-word .ensures) (written-whole (a .kind ∷ first) [] _ 0 refl (omega (arith, fits)))
+
+pub put-forwarded-spec : {M : Type 1} → statement M
+put-forwarded-spec =
+    tie.close
+    (tie.spec
+    Inv-loop
+    μ-loop
+    put-word-requires
+    loop-holds
+    add-put-word
+    first-at-requires
+    put-word-requires-2
+    add-i
+    loop-less
+    loop-again
+    returns)
