@@ -1,6 +1,6 @@
 use borrow.Author.Needs.{needs}
 use native.Mathlib.Omega.{arith}
-use mathlib.Core.Path.{sym, _∙_}
+use mathlib.Core.Path.{sym}
 use Rattle.words.specs.Words.{Lent}
 use Rattle.policy_layout.proofs.InPlace.{range-stored}
 use Rattle.policy_layout.proofs.add_range.Statement.{statement}
