@@ -3,7 +3,7 @@
  *
  * All state is the caller's. It stands in byte buffers of fixed sizes that hold little-endian 64-bit words. No
  * alignment is asked for, any bytes are a valid state, and an unknown code in them reads as 0. The buffers of one call
- * must not overlap. No function keeps a pointer. The archive calls memcpy, memmove and memset, and nothing else.
+ * must not overlap. No function keeps a pointer. The archive may call memcpy, memmove and memset, and nothing else.
  *
  * Every function returns RITM_ACCEPTED or the number of a refusal (enum ritm_refusal); ritm_buffer_size alone returns
  * a size. Where several refusals apply, the first in the order given at the function is returned. A refusal leaves

@@ -15,7 +15,7 @@ use hypervisor::CoresStep;
 use memory_access::Fipa;
 
 // core x0..x30 elr spsr | number
-pub fn save(state: State, fields: [u64; MAX_FIELDS], core: u64) -> Step {
+pub(crate) fn save(state: State, fields: [u64; MAX_FIELDS], core: u64) -> Step {
     let mut x = [0u64; 31];
     copy(&fields[2..33], &mut x);
     let cores = state.cores;
@@ -36,7 +36,7 @@ fn stepped(state: State, fields: [u64; MAX_FIELDS], step: CoresStep) -> Step {
 }
 
 // core esr fipa far vbar | number kind v0..v17
-pub fn trap(state: State, fields: [u64; MAX_FIELDS], arguments: Arguments) -> Step {
+pub(crate) fn trap(state: State, fields: [u64; MAX_FIELDS], arguments: Arguments) -> Step {
     let registers = TrapRegisters {
         esr: arguments.b,
         fipa: Fipa(arguments.c),
@@ -73,7 +73,7 @@ fn with_values(fields: [u64; MAX_FIELDS], values: [u64; 18]) -> [u64; MAX_FIELDS
 }
 
 // core kind v0..v17 error | number
-pub fn reply(state: State, fields: [u64; MAX_FIELDS], core: u64, kind: u64) -> Step {
+pub(crate) fn reply(state: State, fields: [u64; MAX_FIELDS], core: u64, kind: u64) -> Step {
     let error = fields[21];
     if 0xFFFF_FFFF < error {
         return Step {
@@ -106,7 +106,7 @@ fn signed(word: u64) -> i32
 const LAST_CORE: u64 = 7;
 
 // core index value | number
-pub fn write_gpr(state: State, fields: [u64; MAX_FIELDS], arguments: Arguments) -> Step {
+pub(crate) fn write_gpr(state: State, fields: [u64; MAX_FIELDS], arguments: Arguments) -> Step {
     let at = arguments.a;
     if LAST_CORE < at {
         return Step {
@@ -127,7 +127,7 @@ pub fn write_gpr(state: State, fields: [u64; MAX_FIELDS], arguments: Arguments) 
 }
 
 // The core's number, 7 where there is no such core, and its state: x0..x30 elr spsr elr_el1 spsr_el1 far_el1 esr_el1.
-pub fn core_state(cores: [Core; 8], fields: [u64; MAX_FIELDS], core: u64) -> Answer {
+pub(crate) fn core_state(cores: [Core; 8], fields: [u64; MAX_FIELDS], core: u64) -> Answer {
     let at = lists::held_count(core, LAST_CORE);
     let core = cores[at as usize];
     let x = core.x;

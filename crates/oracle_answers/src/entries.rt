@@ -10,7 +10,7 @@ use simple_map::SimpleMap;
 use simple_map::SuspendCoreData;
 
 // key entry_point context_id | number
-pub fn insert(state: State, fields: [u64; MAX_FIELDS], arguments: Arguments) -> Step {
+pub(crate) fn insert(state: State, fields: [u64; MAX_FIELDS], arguments: Arguments) -> Step {
     let value = SuspendCoreData {
         entry_point: arguments.b,
         context_id: arguments.c,
@@ -23,7 +23,7 @@ pub fn insert(state: State, fields: [u64; MAX_FIELDS], arguments: Arguments) -> 
 }
 
 // key | found entry_point context_id
-pub fn remove(state: State, fields: [u64; MAX_FIELDS], key: u64) -> Step {
+pub(crate) fn remove(state: State, fields: [u64; MAX_FIELDS], key: u64) -> Step {
     let map = state.map;
     let step = map.remove(key);
     let removed = step.removed;
@@ -41,7 +41,7 @@ fn stepped(state: State, answer: Answer, map: SimpleMap) -> Step {
 }
 
 // found entry_point context_id
-pub fn found(fields: [u64; MAX_FIELDS], lookup: Lookup) -> Answer {
+pub(crate) fn found(fields: [u64; MAX_FIELDS], lookup: Lookup) -> Answer {
     match lookup {
         Lookup::Value(value) => Answer {
             fields,

@@ -61,7 +61,7 @@ fn field_number(field: &[u8]) -> Field {
 }
 
 // The place of the first such byte from a place on, and the length where there is none.
-pub fn position(text: &[u8], from: usize, byte: u8) -> usize
+pub(crate) fn position(text: &[u8], from: usize, byte: u8) -> usize
     requires { ⌜ from ≤ length (now text) ⌝ }
     ensures { λ r. ⌜ (from ≤ r) × (r ≤ length (now (text .entry))) ⌝ }
 {
@@ -76,7 +76,7 @@ pub fn position(text: &[u8], from: usize, byte: u8) -> usize
 }
 
 // The numbers of a line.
-pub fn parse(line: &[u8]) -> Line {
+pub(crate) fn parse(line: &[u8]) -> Line {
     let mut fields = [0u64; MAX_FIELDS];
     let mut count: usize = 0;
     let mut at: usize = 0;

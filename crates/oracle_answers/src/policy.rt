@@ -11,7 +11,7 @@ use stage2_range::MemoryHandler;
 use stage2_range::RegionFound;
 
 // What a builder call comes to.
-pub fn built(state: State, fields: [u64; MAX_FIELDS], built: Built) -> Step {
+pub(crate) fn built(state: State, fields: [u64; MAX_FIELDS], built: Built) -> Step {
     let answer = built.answer;
     let policy = built.policy;
     let mut next = state;
@@ -23,7 +23,7 @@ pub fn built(state: State, fields: [u64; MAX_FIELDS], built: Built) -> Step {
 }
 
 // found base offset
-pub fn find(policy: Policy, fields: [u64; MAX_FIELDS], ipa: u64) -> Answer {
+pub(crate) fn find(policy: Policy, fields: [u64; MAX_FIELDS], ipa: u64) -> Answer {
     match policy.find(Ipa(ipa)) {
         RegionFound::Match(m) => {
             let region = m.region;
@@ -38,7 +38,7 @@ pub fn find(policy: Policy, fields: [u64; MAX_FIELDS], ipa: u64) -> Answer {
 }
 
 // The place, the last one where there is no such place, and what it holds: base size end attributes.
-pub fn allowed_at(policy: Policy, fields: [u64; MAX_FIELDS], place: u64) -> Answer {
+pub(crate) fn allowed_at(policy: Policy, fields: [u64; MAX_FIELDS], place: u64) -> Answer {
     let place = lists::held_count(place, 31);
     let range = policy.allowed[place as usize];
     Answer {
@@ -56,7 +56,7 @@ pub fn allowed_at(policy: Policy, fields: [u64; MAX_FIELDS], place: u64) -> Answ
 }
 
 // The same of the regions: base size end read write.
-pub fn region_at(policy: Policy, fields: [u64; MAX_FIELDS], place: u64) -> Answer {
+pub(crate) fn region_at(policy: Policy, fields: [u64; MAX_FIELDS], place: u64) -> Answer {
     let place = lists::held_count(place, 15);
     let region = policy.regions[place as usize];
     let handler = region.handler;
@@ -84,7 +84,7 @@ fn handler_number(handler: MemoryHandler) -> u64 {
 }
 
 // allowed_count region_count
-pub fn counts(policy: Policy, fields: [u64; MAX_FIELDS]) -> Answer {
+pub(crate) fn counts(policy: Policy, fields: [u64; MAX_FIELDS]) -> Answer {
     Answer {
         fields,
         first: policy.allowed_count,

@@ -197,7 +197,7 @@ fn arguments_of(fields: [u64; MAX_FIELDS]) -> Arguments {
 const NO_CODE: u64 = 20;
 
 // Takes the record's call, and compares its answer.
-pub fn replay(state: State, line: Line) -> Replayed {
+pub(crate) fn replay(state: State, line: Line) -> Replayed {
     let fields = line.fields;
     let mut code = fields[0];
     let layout = layout_of(code);

@@ -36,7 +36,7 @@ pub struct Step {
 }
 
 // No range, region or entry, fresh cores.
-pub fn fresh(counter: u64) -> State {
+pub(crate) fn fresh(counter: u64) -> State {
     State {
         policy: Policy::new(),
         cores: hypervisor::fresh_cores(),
@@ -46,7 +46,7 @@ pub fn fresh(counter: u64) -> State {
 }
 
 // An answer of one word.
-pub fn one_word(fields: [u64; MAX_FIELDS], first: u64) -> Answer {
+pub(crate) fn one_word(fields: [u64; MAX_FIELDS], first: u64) -> Answer {
     Answer {
         fields,
         first,
@@ -55,14 +55,14 @@ pub fn one_word(fields: [u64; MAX_FIELDS], first: u64) -> Answer {
 }
 
 // What stands for the answer to a line that is no record: its code is another than the line's.
-pub fn no_record(fields: [u64; MAX_FIELDS]) -> Answer {
+pub(crate) fn no_record(fields: [u64; MAX_FIELDS]) -> Answer {
     let mut other = fields;
     other[0] = !fields[0];
     one_word(other, 0)
 }
 
 // Copies a list of the same length.
-pub fn copy(from: &[u64], to: &mut [u64])
+pub(crate) fn copy(from: &[u64], to: &mut [u64])
     requires { ⌜ length (now from) ≡ length (now to) ⌝ }
     ensures { λ _. ⌜ now (to .exit) ≡ now (from .entry) ⌝ }
 {

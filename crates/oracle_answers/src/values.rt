@@ -8,7 +8,7 @@ use memory_access::MemoryAccess;
 use stage2_range::AlignedUp;
 
 // iss fipa far | number ipa bits wnr rt sse sf
-pub fn decode(fields: [u64; MAX_FIELDS], iss: u64, fipa: u64, far: u64) -> Answer {
+pub(crate) fn decode(fields: [u64; MAX_FIELDS], iss: u64, fipa: u64, far: u64) -> Answer {
     if 0xFFFF_FFFF < iss {
         return no_record(fields);
     }
@@ -21,7 +21,7 @@ pub fn decode(fields: [u64; MAX_FIELDS], iss: u64, fipa: u64, far: u64) -> Answe
 }
 
 // iss value | number value
-pub fn extend(fields: [u64; MAX_FIELDS], iss: u64, value: u64) -> Answer {
+pub(crate) fn extend(fields: [u64; MAX_FIELDS], iss: u64, value: u64) -> Answer {
     if 0xFFFF_FFFF < iss {
         return no_record(fields);
     }
@@ -42,7 +42,7 @@ fn extended(decoded: Decoded, value: u64) -> u64 {
 }
 
 // number value
-pub fn aligned(fields: [u64; MAX_FIELDS], aligned: AlignedUp) -> Answer {
+pub(crate) fn aligned(fields: [u64; MAX_FIELDS], aligned: AlignedUp) -> Answer {
     Answer {
         fields,
         first: aligned.number(),
