@@ -1,14 +1,14 @@
 -- Laws of a reply on lent bytes: the stores of its registers, of ELR and of the wait are the core's. Assumes nothing.
 use Prim.Native.Nat.{ℕ, suc, _+_, _*_, _<_}
-use mathlib.Core.Path.{_≡_, refl}
+use mathlib.Core.Path.{_≡_, refl, sym, ap, _∙_}
 use mathlib.Core.List.{List, [], _∷_, _++_}
 use native.Mathlib.Omega.{arith}
 use lib.ListN.{getD}
 use Rattle.words.specs.Words.{wordAt, withWord, wordsAt, withWords, keptCode, Bytes}
-use Rattle.words.proofs.RoundTrip.{Every}
 use Rattle.exceptions.specs.declared.Core.{Core}
 use Rattle.exceptions.specs.declared.Conduit.{Conduit}
 use Rattle.exceptions.specs.declared.Conduit.the-variants.{Hvc, Smc}
+use Rattle.exceptions.specs.declared.Wait.the-variants.{Nothing}
 use Rattle.exceptions.specs.Registers.{freshCore, withRegisters, advancePc}
 use Rattle.hvc_response.specs.declared.HvcResult.{HvcResult}
 use Rattle.hvc_response.specs.declared.HvcResult.the-variants.{Unhandled, Value, Success, SuccessLarge, Error}
@@ -18,38 +18,48 @@ use Rattle.cores_layout.specs.Layout.{coreAt, coresAt, withCore}
 use Rattle.lent_core.proofs.InPlace.{core-put}
 use Rattle.lent_reply.specs.LentReply.{resumedElr}
 
+-- a core that goes on waits for nothing
+resumed-core : (conduit : Conduit) (c : Core)
+    → resumed conduit c ≡ record { x = c .x; elr = resumedElr conduit (c .elr); spsr = c .spsr; el1 = c .el1; wait = Nothing }
+unfolding resumed withWait advancePc
+resumed-core Hvc c = refl
+resumed-core Smc c = refl
+
 -- words with their places, from one on
 abbrev placed : ℕ → List ℕ → List (ℕ × ℕ)
 placed k [] = []
 placed k (v ∷ vs) = (k, v) ∷ placed (suc k) vs
 
 -- A reply's stores in one of the eight cores.
-module _ (b : List ℕ) (i : ℕ) (values : List ℕ) (bytes : Bytes b) (h : i < 8) where
-  -- the word that the wait is then
+module _ (b : List ℕ) (i : ℕ) (values : List ℕ) (bytes : Bytes b) (h : i < 8) (conduit : Conduit) where
+  -- the word of a wait that has ended
   abbrev code : ℕ
   code = keptCode 5 (wordAt b (38 * i + 37)) 0
 
-  -- the bytes that the reply leaves
-  abbrev left : Conduit → List ℕ → List ℕ
-  left conduit vs =
-      withWord (withWord (withWords b (38 * i) vs) (38 * i + 31) (resumedElr conduit (getD (coresAt b) i freshCore .elr))) (38 * i + 37) code
+  -- the words that differ in the core, and the core then
+  abbrev differing : List ℕ → Core → List (ℕ × ℕ)
+  differing vs c = placed 0 vs ++ ((31, resumedElr conduit (c .elr)) ∷ (37, code) ∷ [])
 
-  abbrev words : Conduit → List ℕ → Core → List (ℕ × ℕ)
-  words conduit vs c = placed 0 vs ++ ((31, resumedElr conduit (c .elr)) ∷ (37, code) ∷ [])
+  abbrev after : List ℕ → Core → Core
+  after vs c = record { x = withFirst c vs .x; elr = resumedElr conduit (c .elr); spsr = c .spsr; el1 = c .el1; wait = Nothing }
 
-  abbrev after : Conduit → List ℕ → Core → Core
-  after conduit vs c = resumed conduit (withFirst c vs)
+  abbrev written : HvcResult → List ℕ
+  written result = response result (wordsAt values 0 18)
 
-  pub reply-put : (conduit : Conduit) (result : HvcResult)
-      → let vs = response result (wordsAt values 0 18) in left conduit vs ≡ withCore b i (after conduit vs (getD (coresAt b) i freshCore))
-  unfolding response withFirst withRegisters resumed withWait advancePc coreAt
-  reply-put Hvc Unhandled = core-put b i (words Hvc (response Unhandled (wordsAt values 0 18))) (after Hvc (response Unhandled (wordsAt values 0 18))) bytes (omega arith) refl h
-  reply-put Hvc (Value v) = core-put b i (words Hvc (response (Value v) (wordsAt values 0 18))) (after Hvc (response (Value v) (wordsAt values 0 18))) bytes (omega arith) refl h
-  reply-put Hvc Success = core-put b i (words Hvc (response Success (wordsAt values 0 18))) (after Hvc (response Success (wordsAt values 0 18))) bytes (omega arith) refl h
-  reply-put Hvc SuccessLarge = core-put b i (words Hvc (response SuccessLarge (wordsAt values 0 18))) (after Hvc (response SuccessLarge (wordsAt values 0 18))) bytes (omega arith) refl h
-  reply-put Hvc (Error e) = core-put b i (words Hvc (response (Error e) (wordsAt values 0 18))) (after Hvc (response (Error e) (wordsAt values 0 18))) bytes (omega arith) refl h
-  reply-put Smc Unhandled = core-put b i (words Smc (response Unhandled (wordsAt values 0 18))) (after Smc (response Unhandled (wordsAt values 0 18))) bytes (omega arith) refl h
-  reply-put Smc (Value v) = core-put b i (words Smc (response (Value v) (wordsAt values 0 18))) (after Smc (response (Value v) (wordsAt values 0 18))) bytes (omega arith) refl h
-  reply-put Smc Success = core-put b i (words Smc (response Success (wordsAt values 0 18))) (after Smc (response Success (wordsAt values 0 18))) bytes (omega arith) refl h
-  reply-put Smc SuccessLarge = core-put b i (words Smc (response SuccessLarge (wordsAt values 0 18))) (after Smc (response SuccessLarge (wordsAt values 0 18))) bytes (omega arith) refl h
-  reply-put Smc (Error e) = core-put b i (words Smc (response (Error e) (wordsAt values 0 18))) (after Smc (response (Error e) (wordsAt values 0 18))) bytes (omega arith) refl h
+  -- the bytes that the stores leave
+  abbrev left : HvcResult → List ℕ
+  left result =
+      withWord (withWord (withWords b (38 * i) (written result)) (38 * i + 31) (resumedElr conduit (getD (coresAt b) i freshCore .elr))) (38 * i + 37) code
+
+  -- the length of what a result writes is known, so that the words are compared one by one
+  by-result : (result : HvcResult) → left result ≡ withCore b i (after (written result) (getD (coresAt b) i freshCore))
+  unfolding response withFirst withRegisters coreAt
+  by-result Unhandled = core-put b i (differing (written Unhandled)) (after (written Unhandled)) bytes (omega arith) refl h
+  by-result (Value v) = core-put b i (differing (written (Value v))) (after (written (Value v))) bytes (omega arith) refl h
+  by-result Success = core-put b i (differing (written Success)) (after (written Success)) bytes (omega arith) refl h
+  by-result SuccessLarge = core-put b i (differing (written SuccessLarge)) (after (written SuccessLarge)) bytes (omega arith) refl h
+  by-result (Error e) = core-put b i (differing (written (Error e))) (after (written (Error e))) bytes (omega arith) refl h
+
+  pub reply-put : (result : HvcResult) → left result ≡ withCore b i (resumed conduit (withFirst (getD (coresAt b) i freshCore) (written result)))
+  unfolding withFirst withRegisters
+  reply-put result = by-result result ∙ ap (withCore b i) (sym (resumed-core conduit (withFirst (getD (coresAt b) i freshCore) (written result))))

@@ -2,10 +2,10 @@
 // decisions of `forwarded_call` and `hvc_response`.
 ghost use mathlib.Core.Path.{_≡_};
 ghost use mathlib.Core.Bool.{cond};
-ghost use Prim.Native.Nat.{_<_, _≤_};
+ghost use Prim.Native.Nat.{_+_, _<_, _≤_};
 ghost use lib.Dec.{ltb};
 ghost use lib.ListN.{getD, take};
-ghost use Rattle.words.specs.Words.{wordsAt, withWords};
+ghost use Rattle.words.specs.Words.{wordsAt, withWord, withWords, storeEach};
 ghost use Rattle.exceptions.specs.Registers.{freshCore};
 ghost use Rattle.cores_layout.specs.Layout.{coresAt, withCore};
 ghost use Rattle.hvc_response.specs.Response.{response, withFirst};
@@ -20,19 +20,42 @@ use hvc_response::HvcResult;
 use hvc_response::HvcResultKind;
 use hvc_response::NOT_SUPPORTED;
 
-// Stores the first `count` values of a reply, from a place on.
-fn put_values(cores: &mut [u8; CORES_SIZE], at: usize, values: &[u8; VALUES_SIZE], count: usize)
-    requires { ⌜ (at ≤ 266) × (count ≤ 18) ⌝ }
-    ensures { λ _. ⌜ now (cores .exit) ≡ withWords (now (cores .entry)) at (take count (wordsAt (now (values .entry)) 0 18)) ⌝ }
+// The values of a reply from one on, and zeros past the last.
+fn get_values(values: &[u8; VALUES_SIZE], from: usize) -> [u64; 18]
+    requires { ⌜ from ≤ 18 ⌝ }
+    ensures { λ r. ⌜ r ≡ wordsAt (now (values .entry)) from 18 ⌝ }
 {
+    let mut out = [0u64; 18];
+    let mut i: usize = 0;
+    while i < 18 {
+        out[i] = words::get_word(values, from + i);
+        i += 1;
+    }
+    out
+}
+
+// Stores `count` values of a reply from one on, in the words of their numbers. They are read before the first store, so that two words go at a time.
+fn put_values(
+    cores: &mut [u8; CORES_SIZE],
+    at: usize,
+    values: &[u8; VALUES_SIZE],
+    from: usize,
+    count: usize,
+)
+    requires { ⌜ (at ≤ 266) × (from ≤ 18) × (count ≤ 18) ⌝ }
+    ensures { λ _. ⌜ now (cores .exit)
+        ≡ storeEach (λ b j w. withWord b (at + (from + j)) w) (now (cores .entry)) 0 (take count (wordsAt (now (values .entry)) from 18)) ⌝ }
+{
+    let read = get_values(values, from);
     let mut i: usize = 0;
     while i < count {
-        words::put_word(cores, at + i, words::get_word(values, i));
+        words::put_word(cores, at + (from + i), read[i]);
         i += 1;
     }
 }
 
-// Stores a result from x0 on, by the SMCCC's convention. The counts are constants, so that the stores are no loop.
+// Stores a result from x0 on, by the SMCCC's convention. The counts are constants, so that no loop is left, and eighteen values go in two parts, of which
+// none is long enough for a call of `memmove`.
 fn modify_register_state(
     cores: &mut [u8; CORES_SIZE],
     at: usize,
@@ -53,10 +76,11 @@ fn modify_register_state(
             words::put_word(cores, at + 3, 0);
         }
         HvcResult::Success => {
-            put_values(cores, at, values, 4);
+            put_values(cores, at, values, 0, 4);
         }
         HvcResult::SuccessLarge => {
-            put_values(cores, at, values, 18);
+            put_values(cores, at, values, 0, 4);
+            put_values(cores, at, values, 4, 14);
         }
         HvcResult::Error(error) => {
             words::put_word(cores, at, hvc_response::error_to_u64(error));

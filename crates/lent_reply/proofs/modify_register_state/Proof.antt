@@ -51,6 +51,9 @@ enum-told-3 c = search needs
 put-values-requires-2 : tie.Need-put-values-requires-2
 put-values-requires-2 c κs = search needs
 
+put-values-requires-3 : tie.Need-put-values-requires-3
+put-values-requires-3 c κs = search needs
+
 enum-known-result-2 : tie.Need-enum-known-result-2
 enum-known-result-2 c = search needs
 
@@ -86,7 +89,12 @@ returns-3 c = rw (c .put-values .ensures, c .before .before .enum-told2 .given .
 
 returns-4 : tie.Need-returns-4
 unfolding response
-returns-4 c = rw (c .put-values2 .ensures, c .before .before .enum-told3 .given .1)
+returns-4 c =
+    rw (
+      c .put-values3 .ensures,
+      c .before .before .put-values2 .ensures,
+      c .before .before .before .before .enum-told3 .given .1,
+    )
 
 returns-5 : tie.Need-returns-5
 unfolding response
@@ -120,6 +128,7 @@ modify-register-state-spec =
     put-values-requires
     enum-told-3
     put-values-requires-2
+    put-values-requires-3
     enum-known-result-2
     error-to-u64-requires-2
     put-word-requires-6

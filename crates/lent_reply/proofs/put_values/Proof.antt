@@ -1,18 +1,19 @@
 use native.Mathlib.Omega.{arith}
-use native.Mathlib.Nat.{zero-add}
 use Prim.Native.Nat.{_-_, _+_, _≤_}
-use mathlib.Core.Path.{_≡_, refl, sym, ap, _∙_}
-use lib.ListN.{take}
-use Rattle.words.specs.Words.{wordAt, withWord, wordsAt, withWords}
-use Rattle.words.proofs.Words.{Stored, stored-next, getD-each}
+use mathlib.Core.Path.{_≡_, refl}
+use Rattle.words.specs.Words.{withWord}
+use Rattle.words.proofs.Words.{Stored, stored-next}
 use Rattle.lent_reply.proofs.put_values.Statement.{statement}
 use Rattle.lent_reply.proofs.put_values.Tie as tie
 
 abbrev Inv-loop : tie.InvT-loop
-Inv-loop cores₀ at values count i₀ cores i = (i ≤ count) × Stored (λ b j w. withWord b (at + j) w) cores₀ (wordsAt values 0 18) cores i
+Inv-loop cores₀ at values from count read i₀ cores i = (i ≤ count) × Stored (λ b j w. withWord b (at + (from + j)) w) cores₀ read cores i
 
 abbrev μ-loop : tie.MeasureT-loop
-μ-loop cores₀ at values count i₀ cores i = count - i
+μ-loop cores₀ at values from count read i₀ cores i = count - i
+
+get-values-requires : tie.Need-get-values-requires Inv-loop μ-loop
+get-values-requires c κs = omega arith
 
 loop-holds : tie.Need-loop-holds Inv-loop μ-loop
 loop-holds c = (omega arith, record { within = omega arith; done = refl })
@@ -20,11 +21,17 @@ loop-holds c = (omega arith, record { within = omega arith; done = refl })
 add-put-word : tie.Need-add-put-word Inv-loop μ-loop
 add-put-word c = omega arith
 
-get-word-requires : tie.Need-get-word-requires Inv-loop μ-loop
-get-word-requires c κs = tt
+add-put-word-2 : tie.Need-add-put-word-2 Inv-loop μ-loop
+add-put-word-2 c = omega arith
+
+mul-put-word : tie.Need-mul-put-word Inv-loop μ-loop
+mul-put-word c = omega arith
+
+array-read-put-word : tie.Need-array-read-put-word Inv-loop μ-loop
+array-read-put-word c = omega arith
 
 put-word-requires : tie.Need-put-word-requires Inv-loop μ-loop
-put-word-requires c κs = tt
+put-word-requires c κs = omega arith
 
 add-i : tie.Need-add-i Inv-loop μ-loop
 add-i c = omega arith
@@ -34,17 +41,15 @@ loop-less c = omega arith
 
 loop-again : tie.Need-loop-again Inv-loop μ-loop
 loop-again c =
-    let l = c .before .before .before .before .before .loop in
-    let a = c .before .before .before .before .before .before .args in
-    let read = getD-each (λ j. wordAt (a .values .now) (0 + j)) 0 18 (l .i) 0 (omega arith) in
-    (omega arith, stored-next (l .inv .1) (omega arith) 0 _ (rw (read, zero-add (l .i), zero-add (l .i), ← c .before .get-word .ensures) (c .put-word .ensures)))
+    let inv = c .before .before .before .loop .inv in
+    (omega arith, stored-next (inv .1) (omega arith) 0 _ (c .put-word .ensures))
 
 returns : tie.Need-returns Inv-loop μ-loop
 returns c =
-    let a = c .before .before .args in
     let l = c .before .loop in
-    let done : l .i ≡ a .count = omega arith in
-    rw (← done) (l .inv .1 .done)
+    let g = c .before .before .get-values in
+    let done : l .i ≡ c .before .before .before .args .count = omega arith in
+    rw (← done, ← g .ensures) (l .inv .1 .done)
 
 pub put-values-spec : {M : Type 1} → statement M
 put-values-spec =
@@ -52,9 +57,12 @@ put-values-spec =
     (tie.spec
     Inv-loop
     μ-loop
+    get-values-requires
     loop-holds
     add-put-word
-    get-word-requires
+    add-put-word-2
+    mul-put-word
+    array-read-put-word
     put-word-requires
     add-i
     loop-less
