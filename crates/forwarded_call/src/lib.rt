@@ -134,7 +134,7 @@ pub fn reply_core(core: Core, reply: HvcReply) -> Replied
 }
 
 // The firmware answers with one value or an error, kinds 1 and 4.
-fn may_reply(recipient: Recipient, kind: u64) -> bool
+pub fn may_reply(recipient: Recipient, kind: u64) -> bool
     ensures { λ r. ⌜ r ≡ mayReply recipient kind ⌝ }
 {
     match recipient {

@@ -35,7 +35,7 @@ impl HvcResultKind {
 }
 
 // SMCCC's NOT_SUPPORTED (Arm DEN0028).
-const NOT_SUPPORTED: i32 = -1;
+pub const NOT_SUPPORTED: i32 = -1;
 
 impl HvcResult {
     // The result that a reply's kind names, with the value or the error where the kind has one.
@@ -94,7 +94,7 @@ fn write_response_registers(core: Core, results: [u64; 18], count: usize) -> Cor
 }
 
 // The error, sign-extended. A cast keeps a number's value, so a negative one goes by its complement.
-fn error_to_u64(error: i32) -> u64
+pub fn error_to_u64(error: i32) -> u64
     ensures { λ r. ⌜ r ≡ signedWord error ⌝ }
 {
     if error < 0 {

@@ -1,7 +1,7 @@
 -- Laws of the calls on a core: above 7 there is none, and one of the eight is stepped by itself. Assumes nothing.
 use Prim.Native.Nat.{ℕ, _<_, _≤_}
 use mathlib.Core.Path.{_≡_, refl, sym, ap, _∙_}
-use mathlib.Core.Bool.{Bool, true, false}
+use mathlib.Core.Bool.{Bool, true, false, cond}
 use mathlib.Core.List.{List, []}
 use lib.Dec.{eqb, ltb}
 use lib.IntN.{ℤ}
@@ -14,7 +14,6 @@ use Rattle.exceptions.specs.Registers.{freshCore, writeGpr, writeNumber}
 use Rattle.exceptions.proofs.Laws.{within-accepted}
 use Rattle.forwarded_call.specs.declared.ReplyAnswer.{ReplyAnswer}
 use Rattle.forwarded_call.specs.declared.ReplyAnswer.the-variants as reply
-use Rattle.forwarded_call.specs.declared.Replied.{Replied}
 use Rattle.forwarded_call.specs.ForwardedCall.{replyNumber, replyCore}
 use Rattle.hypervisor.specs.declared.CoreStep.{CoreStep}
 use Rattle.hypervisor.specs.Answers.{coreNumber, replyAnswer}
@@ -23,6 +22,7 @@ use Rattle.words.specs.Words.{wordAt, wordsAt, Bytes}
 use Rattle.cores_layout.specs.Layout.{coresAt, withCore}
 use Rattle.lent_core.proofs.InPlace.{gpr-kept}
 use Rattle.lent_trap.proofs.Laws.{same-core, replaced}
+use Rattle.lent_reply.specs.LentReply.{repliedOne}
 use Rattle.ritm.specs.Interface.{Left, unlessRefused, steppedCore, saveCall, replyCall, writeCall}
 
 -- what a step of one core leaves
@@ -55,12 +55,7 @@ reply-number reply.Accepted = refl
 reply-number reply.NothingWaiting = refl
 reply-number reply.UnknownReplyKind = refl
 
--- what a reply to one core leaves
-abbrev pub repliedOne : List ℕ → ℕ → Replied → Left
-repliedOne cores i r =
-    let number = replyNumber (r .answer) in
-    record { number = number; state = unlessRefused number cores (withCore cores i (r .core)); result = [] }
-
+-- a reply to one of the eight, and to a core of any number
 pub reply-one : (cores : List ℕ) (i kind : ℕ) (values : List ℕ) (error : ℤ) → i ≤ 7
     → replyCall cores i kind values error
     ≡ repliedOne cores i (replyCore (getD (coresAt cores) i freshCore) (record { kind = kind; values = wordsAt values 0 18; error = error }))
@@ -73,17 +68,26 @@ reply-one cores i kind values error h =
     stepLeft : List ℕ → ℕ → ℕ → Core → Left
     stepLeft cores i n core = record { number = n; state = unlessRefused n cores (withCore cores i core); result = [] }
 
--- The same two calls, by what the code reads and calls: the core, and the step.
+pub reply-any : (cores : List ℕ) (i kind : ℕ) (values : List ℕ) (error : ℤ)
+    → let left = repliedOne cores i (replyCore (getD (coresAt cores) i freshCore) (record { kind = kind; values = wordsAt values 0 18; error = error })) in
+    replyCall cores i kind values error ≡ record { number = cond (ltb 7 i) 10 (left .number); state = cond (ltb 7 i) cores (left .state); result = [] }
+unfolding replyCall replyOn
+reply-any cores i kind values error = go (ltb 7 i) refl
+  where
+    left : Left
+    left = repliedOne cores i (replyCore (getD (coresAt cores) i freshCore) (record { kind = kind; values = wordsAt values 0 18; error = error }))
+
+    go : (t : Bool) → ltb 7 i ≡ t → replyCall cores i kind values error ≡ record { number = cond t 10 (left .number); state = cond t cores (left .state); result = [] }
+    go true e = step-none cores i (λ one. replyStep (replyCore one (record { kind = kind; values = wordsAt values 0 18; error = error }))) (omega (arith, ltb-true 7 i e))
+    go false e = reply-one cores i kind values error (omega (arith, ltb-false 7 i e))
+
+-- A save, by what the code reads and calls: the core, and the step.
 pub save-by : (cores registers : List ℕ) (i : ℕ) (x : List ℕ) (elr spsr : ℕ) (core : Core) (step : CoreStep) → i ≤ 7 → x ≡ wordsAt registers 0 31 → elr ≡ wordAt registers 31
     → spsr ≡ wordAt registers 32 → core ≡ getD (coresAt cores) i freshCore → step ≡ saveCore core x elr spsr → saveCall cores i registers ≡ steppedOne cores i step
 unfolding saveCall saveOn
 save-by cores registers i x elr spsr core step h ex el es c s =
     step-one cores i (λ one. saveCore one (wordsAt registers 0 31) (wordAt registers 31) (wordAt registers 32)) h
     ∙ rw (s, c, ex, el, es)
-
-pub reply-by : (cores values : List ℕ) (i kind : ℕ) (error : ℤ) (held : List ℕ) (core : Core) (r : Replied) → i ≤ 7 → held ≡ wordsAt values 0 18
-    → core ≡ getD (coresAt cores) i freshCore → r ≡ replyCore core (record { kind = kind; values = held; error = error }) → replyCall cores i kind values error ≡ repliedOne cores i r
-reply-by cores values i kind error held core r h v c s = reply-one cores i kind values error h ∙ rw (s, c, v)
 
 -- What a write to one core leaves: a refusal stores the core as it stands, which changes nothing.
 pub write-one : (cores : List ℕ) (i index value : ℕ) → Bytes cores → i ≤ 7

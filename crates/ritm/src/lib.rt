@@ -14,7 +14,6 @@ use cores_layout::REGISTERS_SIZE;
 use cores_layout::TRAP_RESULT_SIZE;
 use cores_layout::VALUES_SIZE;
 use data_abort::TrapRegisters;
-use forwarded_call::HvcReply;
 use hypervisor::CoreError;
 use map_layout::MAP_SIZE;
 use memory_access::Decoded;
@@ -173,24 +172,7 @@ pub extern "C" fn ritm_reply(
     ensures { λ r. ⌜ (r ≡ replyCall (now (cores .entry)) core kind (now (values .entry)) error .number)
         × (now (cores .exit) ≡ replyCall (now (cores .entry)) core kind (now (values .entry)) error .state) ⌝ }
 {
-    if LAST_CORE < core {
-        return CoreError::NoSuchCore.number();
-    }
-    let values = cores_layout::get_values(values);
-    let reply = HvcReply {
-        kind,
-        values,
-        error,
-    };
-    let replied = forwarded_call::reply_core(cores_layout::get_core(cores, core), reply);
-    let answer = replied.answer;
-    let number = answer.number();
-    if number != 0 {
-        return number;
-    }
-    let after = replied.core;
-    cores_layout::put_core(cores, core, after);
-    0
+    lent_reply::reply(cores, core, kind, values, error)
 }
 
 // The value of a guest register: refusals 10, 17.

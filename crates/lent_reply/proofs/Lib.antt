@@ -1,0 +1,2 @@
+-- Laws of a reply on lent bytes.
+pub mod Laws

@@ -1,0 +1,2 @@
+-- What the contracts of `lent_reply` cite.
+pub mod LentReply
