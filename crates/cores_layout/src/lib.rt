@@ -185,19 +185,6 @@ pub fn get_saved_spsr(registers: &[u8; REGISTERS_SIZE]) -> u64
     words::get_word(registers, 32)
 }
 
-// The eighteen values of a reply.
-pub fn get_values(values: &[u8; VALUES_SIZE]) -> [u64; 18]
-    ensures { λ r. ⌜ r ≡ wordsAt (now (values .entry)) 0 18 ⌝ }
-{
-    let mut out = [0u64; 18];
-    let mut i: usize = 0;
-    while i < 18 {
-        out[i] = words::get_word(values, i);
-        i += 1;
-    }
-    out
-}
-
 // The result of a trap: its kind, and the values of a forwarded call.
 pub fn put_trap_result(result: &mut [u8; TRAP_RESULT_SIZE], kind: u64, values: [u64; 18])
     ensures { λ _. ⌜ now (result .exit) ≡ bytesOf (kind ∷ values) ⌝ }
