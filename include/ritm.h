@@ -2,8 +2,15 @@
  * The C interface of Malfroek: RITM's stage-2 policy, guest traps and suspend map, as a proved static archive.
  *
  * All state is the caller's. It stands in byte buffers of fixed sizes that hold little-endian 64-bit words. No
- * alignment is asked for, any bytes are a valid state, and an unknown code in them reads as 0. The buffers of one call
- * must not overlap. No function keeps a pointer. The archive may call memcpy, memmove and memset, and nothing else.
+ * alignment is asked for, any bytes are a valid state, and an unknown code in them reads as 0. Every buffer of a call
+ * must be readable and, unless it is const, writable in its whole size, whatever the call comes to: no pointer may be
+ * null. The buffers of one call must not overlap. No function keeps a pointer. Of other code the archive calls memset
+ * alone.
+ *
+ * The archive has no data of its own, so calls on different buffers may run at the same time. Calls on the same buffer
+ * may only where all of them take it as const: a policy that nothing changes any more may be shared by all cores. A
+ * cores buffer that several cores use needs one lock of the caller's for the whole of it, and not one for each core,
+ * since a trap of any core may write the counter. A map needs one too.
  *
  * Every function returns RITM_ACCEPTED or the number of a refusal (enum ritm_refusal); ritm_buffer_size alone returns
  * a size. Where several refusals apply, the first in the order given at the function is returned. A refusal leaves
@@ -261,8 +268,8 @@ uint64_t ritm_save(uint8_t cores[RITM_CORES_SIZE], uint64_t core, const uint8_t 
 uint64_t ritm_trap(const uint8_t policy[RITM_POLICY_SIZE], uint8_t cores[RITM_CORES_SIZE], uint64_t core, uint64_t esr,
                    uint64_t fipa, uint64_t far, uint64_t vbar, uint8_t trapped[RITM_TRAP_RESULT_SIZE]);
 
-/* Gives a core the reply that it waits for (enum ritm_reply_kind). Values and error are read only where the kind uses
-   them. Refusals 10, 14, 15. */
+/* Gives a core the reply that it waits for (enum ritm_reply_kind). Values and error that the kind does not
+   use make no difference; the buffer of values must be readable all the same. Refusals 10, 14, 15. */
 uint64_t ritm_reply(uint8_t cores[RITM_CORES_SIZE], uint64_t core, uint64_t kind,
                     const uint8_t values[RITM_VALUES_SIZE], int32_t error);
 

@@ -5,6 +5,7 @@
  */
 #include <inttypes.h>
 #include <stdio.h>
+#include <string.h>
 
 #include "ritm.h"
 
@@ -245,6 +246,26 @@ static uint64_t reply_kind(const uint64_t *a)
     return NOT_SEEN;
 }
 
+/* How many values a reply of this kind to the platform's call uses: those on which the cores then depend. */
+static uint64_t values_used(const uint64_t *a)
+{
+    static const uint64_t call[] = {HVC, 0, 0};
+    uint8_t values[RITM_VALUES_SIZE] = {0};
+    struct machine zeros;
+    uint64_t used = 0;
+    make_machine(&zeros, call);
+    ritm_reply(zeros.cores, 1, a[0], values, 0);
+    for (size_t k = 0; k < RITM_VALUES_COUNT; k++) {
+        struct machine machine;
+        make_machine(&machine, call);
+        ritm_put_word(values, k, VALUE(k));
+        ritm_reply(machine.cores, 1, a[0], values, 0);
+        ritm_put_word(values, k, 0);
+        used += memcmp(machine.cores, zeros.cores, sizeof zeros.cores) != 0;
+    }
+    return used;
+}
+
 /* The handler's code, as the policy's bytes hold it, whose region answers a load with this kind. */
 static uint64_t handler_code(const uint64_t *a)
 {
@@ -415,6 +436,12 @@ static const struct row rows[] = {
     {NAMED(RITM_REPLY_SUCCESS), reply_kind, {VALUE(0), VALUE(1), SAVED(4), SAVED(17)}},
     {NAMED(RITM_REPLY_SUCCESS_LARGE), reply_kind, {VALUE(0), VALUE(1), VALUE(4), VALUE(17)}},
     {NAMED(RITM_REPLY_ERROR), reply_kind, {ERROR_REGISTER, SAVED(1), SAVED(4), SAVED(17)}},
+
+    {"the number of values that RITM_REPLY_UNHANDLED uses", 0, values_used, {RITM_REPLY_UNHANDLED}},
+    {"the number of values that RITM_REPLY_VALUE uses", 1, values_used, {RITM_REPLY_VALUE}},
+    {"the number of values that RITM_REPLY_SUCCESS uses", 4, values_used, {RITM_REPLY_SUCCESS}},
+    {NAMED(RITM_VALUES_COUNT), values_used, {RITM_REPLY_SUCCESS_LARGE}},
+    {"the number of values that RITM_REPLY_ERROR uses", 0, values_used, {RITM_REPLY_ERROR}},
 
     {NAMED(RITM_POLICY_ALLOWED + RITM_ALLOWED_BASE), policy_place, {ALLOWED(0)}},
     {NAMED(RITM_POLICY_ALLOWED + RITM_ALLOWED_SIZE), policy_place, {PAGE}},

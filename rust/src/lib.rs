@@ -5,6 +5,10 @@
 //! layout that `include/ritm.h` gives. Each call answers, or is refused with a [`Refusal`] and then
 //! changes nothing.
 //!
+//! The archive has no data of its own: a call reads and writes what it is lent. Where several
+//! processors take traps, [`Cores`] as a whole stands behind one lock, since its counter is one for
+//! all cores, and so does a [`SuspendMap`]; a [`Policy`] that nothing changes any more may be shared.
+//!
 //! The build links `libritm.a` from the folder that the environment variable `RITM_LIB_DIR` names,
 //! by default `target/staticlib` beside this crate, where `rt staticlib ritm` puts it. It is made
 //! for x86-64 Linux.

@@ -16,11 +16,11 @@ use Rattle.exceptions.specs.declared.Recipient.the-variants.{Firmware, Platform
 use Rattle.exceptions.specs.declared.Wait.{Wait}
 use Rattle.exceptions.specs.declared.Wait.the-variants.{Nothing, Call}
 use Rattle.exceptions.specs.declared.Core.{Core}
-use Rattle.cores_layout.specs.Layout.{waits, waitOf, waitNumber, coreAt, faultWords, withCore, coresAt, counterAt, withCounter}
+use Rattle.cores_layout.specs.Layout.{waitCodes, waitByCode, waitNumber, coreAt, faultWords, withCore, coresAt, counterAt, withCounter}
 
 -- a code that names nothing else is nothing
-pub unknown-wait : (code : ℕ) → (code ≡ 1 → ⊥) → (code ≡ 2 → ⊥) → (code ≡ 3 → ⊥) → (code ≡ 4 → ⊥) → waitOf code ≡ Nothing
-unfolding waitOf
+pub unknown-wait : (code : ℕ) → (code ≡ 1 → ⊥) → (code ≡ 2 → ⊥) → (code ≡ 3 → ⊥) → (code ≡ 4 → ⊥) → waitByCode code ≡ Nothing
+unfolding waitByCode
 unknown-wait zero a b c d = refl
 unknown-wait (suc zero) a b c d = absurd (a refl)
 unknown-wait (suc (suc zero)) a b c d = absurd (b refl)
@@ -43,8 +43,8 @@ unfolding coresAt
 length-cores cores = length-each (coreAt cores) 0 8
 
 -- the number of a wait is a code that means it
-pub wait-code : (w : Wait) → (waitNumber w < 5) × (waitOf (waitNumber w) ≡ w)
-unfolding waitOf
+pub wait-code : (w : Wait) → (waitNumber w < 5) × (waitByCode (waitNumber w) ≡ w)
+unfolding waitByCode
 wait-code Nothing = (omega arith, refl)
 wait-code (Call Hvc Firmware) = (omega arith, refl)
 wait-code (Call Hvc Platform) = (omega arith, refl)
@@ -52,9 +52,9 @@ wait-code (Call Smc Firmware) = (omega arith, refl)
 wait-code (Call Smc Platform) = (omega arith, refl)
 
 -- a wait that was written is read back
-pub wait-back : (old : ℕ) (w : Wait) → waitOf (keptCode 5 old (waitNumber w)) ≡ w
-unfolding waitOf
-wait-back old w = meaning-back waitOf 5 (λ c l. List·getD-eq-default waits Nothing {n = c} l) old (waitNumber w) (wait-code w .0) ∙ wait-code w .1
+pub wait-back : (old : ℕ) (w : Wait) → waitByCode (keptCode 5 old (waitNumber w)) ≡ w
+unfolding waitByCode
+wait-back old w = meaning-back waitByCode 5 (λ c l. List·getD-eq-default waitCodes Nothing {n = c} l) old (waitNumber w) (wait-code w .0) ∙ wait-code w .1
 
 -- the core that words make
 abbrev pub coreFrom : List ℕ → Core
@@ -65,7 +65,7 @@ coreFrom ws =
       elr = getD rest 0 0;
       spsr = getD rest 1 0;
       el1 = record { elr = getD rest 2 0; spsr = getD rest 3 0; far = getD rest 4 0; esr = getD rest 5 0 };
-      wait = waitOf (getD rest 6 0);
+      wait = waitByCode (getD rest 6 0);
     }
 
 -- a core stands in 38 words

@@ -9,12 +9,12 @@ use Rattle.words.specs.Words.{Lent}
 use Rattle.words.proofs.Records.{each-constant, zero-word, zero-record, array-kept, each-set}
 use Rattle.exceptions.specs.declared.Core.{Core}
 use Rattle.exceptions.specs.Registers.{freshCore}
-use Rattle.cores_layout.specs.Layout.{waitOf, coreAt, withCore, coresAt, counterAt, withCounter}
+use Rattle.cores_layout.specs.Layout.{waitByCode, coreAt, withCore, coresAt, counterAt, withCounter}
 use Rattle.cores_layout.proofs.Records.{CoreFits, coreFrom, core-in, core-back, core-beside}
 
 -- zero bytes are fresh cores
 pub fresh-cores : coresAt (replicate 2440 0) ≡ replicate 8 freshCore
-unfolding coresAt freshCore waitOf
+unfolding coresAt freshCore waitByCode
 fresh-cores = each-constant (coreAt (replicate 2440 0)) (coreFrom (replicate 38 0)) (λ i. zero-record (core-in i) 2440) 0 8
 
 -- zero bytes are a counter of zero

@@ -1,6 +1,8 @@
 -- Where the words of the cores and of the counter stand in the bytes that a host lends. Any bytes are eight cores. Assumes nothing.
 use Prim.Native.Nat.{ℕ, _+_, _*_}
+use mathlib.Core.Bool.{cond}
 use mathlib.Core.List.{List, [], _∷_, _++_}
+use lib.Dec.{ltb}
 use lib.ListN.{getD}
 use Rattle.words.specs.Words.{wordAt, withWord, each, wordsAt, withWords, keptCode}
 use Rattle.exceptions.specs.declared.Conduit.the-variants.{Hvc, Smc}
@@ -9,13 +11,14 @@ use Rattle.exceptions.specs.declared.Wait.{Wait}
 use Rattle.exceptions.specs.declared.Wait.the-variants.{Nothing, Call}
 use Rattle.exceptions.specs.declared.Core.{Core}
 use Rattle.exceptions.specs.declared.FaultRegisters.{FaultRegisters}
+use Rattle.exceptions.specs.Registers.{freshCore}
 
 -- what a core waits for, by its code; an unknown code is nothing
-abbrev pub waits : List Wait
-waits = Nothing ∷ Call Hvc Firmware ∷ Call Hvc Platform ∷ Call Smc Firmware ∷ Call Smc Platform ∷ []
+abbrev pub waitCodes : List Wait
+waitCodes = Nothing ∷ Call Hvc Firmware ∷ Call Hvc Platform ∷ Call Smc Firmware ∷ Call Smc Platform ∷ []
 
-unfoldable pub waitOf : ℕ → Wait
-waitOf code = getD waits code Nothing
+unfoldable pub waitByCode : ℕ → Wait
+waitByCode code = getD waitCodes code Nothing
 
 abbrev pub waitNumber : Wait → ℕ
 waitNumber Nothing = 0
@@ -39,7 +42,7 @@ coreAt cores i =
         far = wordAt cores (at + 35);
         esr = wordAt cores (at + 36);
       };
-      wait = waitOf (wordAt cores (at + 37));
+      wait = waitByCode (wordAt cores (at + 37));
     }
 
 abbrev pub faultWords : FaultRegisters → List ℕ
@@ -54,6 +57,21 @@ withCore cores i core =
 -- the eight cores that the bytes hold
 unfoldable pub coresAt : List ℕ → List Core
 coresAt cores = each (coreAt cores) 0 8
+
+-- a core by its number; where there is none of that number, a fresh one
+abbrev pub heldCore : List ℕ → ℕ → Core
+heldCore cores i = getD (coresAt cores) i freshCore
+
+-- the bytes with a core stored, and as they were where there is none of that number
+abbrev pub storedCore : List ℕ → ℕ → Core → List ℕ
+storedCore cores i core = cond (ltb 7 i) cores (withCore cores i core)
+
+-- the same of one word of a core
+abbrev pub heldWord : List ℕ → ℕ → ℕ → ℕ
+heldWord cores i word = cond (ltb 7 i) 0 (wordAt cores (38 * i + word))
+
+abbrev pub storedWord : List ℕ → ℕ → ℕ → ℕ → List ℕ
+storedWord cores i word value = cond (ltb 7 i) cores (withWord cores (38 * i + word) value)
 
 unfoldable pub counterAt : List ℕ → ℕ
 counterAt cores = wordAt cores 304

@@ -3,12 +3,8 @@
 ghost use mathlib.Core.Path.{_≡_};
 ghost use mathlib.Core.List.{_∷_};
 ghost use Prim.Native.Nat.{_+_, _≤_, _<_};
-ghost use mathlib.Core.Bool.{cond};
-ghost use lib.Dec.{ltb};
-ghost use lib.ListN.{getD};
 ghost use Rattle.words.specs.Words.{wordAt, wordsAt, withWord, withWords, storeEach, bytesOf};
-ghost use Rattle.exceptions.specs.Registers.{freshCore};
-ghost use Rattle.cores_layout.specs.Layout.{faultWords, waitOf, waitNumber, coreAt, coresAt, counterAt, withCore, withCounter};
+ghost use Rattle.cores_layout.specs.Layout.{faultWords, waitByCode, waitNumber, coreAt, heldCore, storedCore, counterAt, withCore, withCounter};
 use exceptions::Conduit;
 use exceptions::Core;
 use exceptions::FaultRegisters;
@@ -26,7 +22,7 @@ pub const TRAP_RESULT_SIZE: usize = 152;
 
 // What a core waits for, by its code.
 pub fn wait_of(code: u64) -> Wait
-    ensures { λ r. ⌜ r ≡ waitOf code ⌝ }
+    ensures { λ r. ⌜ r ≡ waitByCode code ⌝ }
 {
     match code {
         1 => Wait::Call(Conduit::Hvc, Recipient::Firmware),
@@ -72,7 +68,7 @@ fn get_x(bytes: &[u8], from: usize) -> [u64; 31]
 
 // The core, and a fresh one where there is no core of that number.
 pub fn get_core(cores: &[u8; CORES_SIZE], core: u64) -> Core
-    ensures { λ r. ⌜ r ≡ getD (coresAt (now (cores .entry))) core freshCore ⌝ }
+    ensures { λ r. ⌜ r ≡ heldCore (now (cores .entry)) core ⌝ }
 {
     if 8 <= core {
         return Core::fresh();
@@ -126,7 +122,7 @@ fn put_el1(cores: &mut [u8; CORES_SIZE], at: usize, el1: FaultRegisters)
 
 // Stores a core, and nothing where there is no core of that number.
 pub fn put_core(cores: &mut [u8; CORES_SIZE], core: u64, value: Core)
-    ensures { λ _. ⌜ now (cores .exit) ≡ cond (ltb 7 core) (now (cores .entry)) (withCore (now (cores .entry)) core value) ⌝ }
+    ensures { λ _. ⌜ now (cores .exit) ≡ storedCore (now (cores .entry)) core value ⌝ }
 {
     if core < 8 {
         put_one(cores, core as usize, value);

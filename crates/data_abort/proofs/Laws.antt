@@ -1,5 +1,5 @@
 -- Laws on a data abort. Assumes nothing.
-use mathlib.Core.Bool.{Bool, true, false, _&&_, cond}
+use mathlib.Core.Bool.{Bool, true, false, not, _&&_, _||_, cond}
 use mathlib.Core.List.{List}
 use Prim.Native.Nat.{ℕ, _+_, _*_, _/_, _%_, _^_, _-_, _<_}
 use mathlib.Core.Path.{_≡_, refl, ap, ap₂, sym, _∙_}
@@ -12,33 +12,21 @@ use Rattle.lists.proofs.Laws.{cond-map, cond-all}
 use Rattle.memory_access.specs.declared.MemoryAccess.{MemoryAccess}
 use Rattle.memory_access.specs.declared.MemoryAccessKind.{MemoryAccessKind}
 use Rattle.memory_access.specs.declared.MemoryAccessKind.the-variants.{Read, Write}
-use Rattle.memory_access.specs.declared.Decoded.{Decoded}
 use Rattle.memory_access.specs.declared.Decoded.the-variants.{Access, NoSyndrome}
-use Rattle.memory_access.specs.Syndrome.{bitsAt, decodeAccess}
+use Rattle.memory_access.specs.Syndrome.{bitsAt, isv, decodeAccess}
 use Rattle.memory_access.specs.Transfer.{extendReadResult}
 use Rattle.stage2_range.specs.declared.MemoryAccessRegion.{MemoryAccessRegion}
-use Rattle.stage2_range.specs.declared.MemoryAccessHandlerMatch.{MemoryAccessHandlerMatch}
-use Rattle.stage2_range.specs.declared.MemoryHandler.{MemoryHandler}
-use Rattle.stage2_range.specs.declared.MemoryHandler.the-variants.{Absent, FilteredMmio}
-use Rattle.stage2_range.specs.declared.MemoryReadAccess.{MemoryReadAccess}
-use Rattle.stage2_range.specs.declared.MemoryReadResult.{MemoryReadResult}
-use Rattle.stage2_range.specs.declared.MemoryReadResult.the-variants as read
-use Rattle.stage2_range.specs.declared.MemoryWriteResult.{MemoryWriteResult}
-use Rattle.stage2_range.specs.declared.MemoryWriteResult.the-variants as write
 use Rattle.stage2_range.specs.declared.RegionFound.{RegionFound}
-use Rattle.stage2_range.specs.declared.RegionFound.the-variants.{Nothing, Match}
 use Rattle.stage2_range.specs.Registry.{findRegion}
 use Rattle.exceptions.specs.declared.Core.{Core}
-use Rattle.exceptions.specs.Registers.{advancePc, writeGpr}
+use Rattle.exceptions.specs.Registers.{advancePc, readGpr, readValue, writeGpr}
 use Rattle.exceptions.proofs.Laws.{write-wait}
-use Rattle.qemu.specs.FilteredMmio.{loadsCounter, counterAfter, readFilteredMmio, writeFilteredMmio}
-use Rattle.data_abort.specs.declared.AbortAnswer.the-variants.{Injected, NoGuestVector}
+use Rattle.qemu.specs.FilteredMmio.{loadsCounter, counterAfter, readFilteredMmio}
+use Rattle.data_abort.specs.declared.AbortAnswer.the-variants.{Handled, Injected, NoGuestVector}
 use Rattle.data_abort.specs.declared.AbortStep.{AbortStep}
-use Rattle.data_abort.specs.declared.AccessOutcome.{AccessOutcome}
-use Rattle.data_abort.specs.declared.AccessOutcome.the-variants.{Loaded, Stored, Unhandled}
-use Rattle.data_abort.specs.declared.Emulated.{Emulated}
 use Rattle.data_abort.specs.declared.TrapRegisters.{TrapRegisters}
-use Rattle.data_abort.specs.DataAbort.{iss, unhandled, readDone, writeDone, readThrough, writeThrough, accessIn, emulateAccess, accessDecoded, tryMemoryAccess, injected, injectDataAbort, abortDone, handleDataAbort, withEc, isUnhandled, injectionDue, abortNumber}
+use Rattle.data_abort.specs.DataAbort.{iss, accessBy, offsetIn, pageRead, notHandled, injectionDue, wordRead, handled, withEc, injected, injectDataAbort, handleDataAbort, abortNumber}
+use Rattle.data_abort.specs.Outcome.{unhandled, done, emulate, emulateDecoded, tryMemoryAccess, stepBy}
 
 -- a mask clears bits 31:26
 ec-cleared : (e : ℕ) → e < 2 ^ 64 → bitAnd e (2 ^ 64 - 1 - 0x3F * 2 ^ 26) ≡ e / 2 ^ 32 * 2 ^ 32 + e % 2 ^ 26
@@ -69,40 +57,86 @@ pub class-replaced : (esr class : ℕ) → class < 2 ^ 6
 unfolding withEc bitsAt
 class-replaced esr class h = (omega arith, omega arith, omega arith)
 
--- 13 exactly where an injection is due and VBAR is 0
-pub abort-number : (regions : List MemoryAccessRegion) (core : Core) (counter : ℕ) (trap : TrapRegisters)
-    → abortNumber (handleDataAbort regions core counter trap .answer)
-    ≡ cond (injectionDue regions core counter trap && eqb (trap .vbar) 0) 13 0
-unfolding handleDataAbort injectionDue injectDataAbort
-abort-number regions core counter trap = go (tryMemoryAccess regions core counter trap .outcome)
-  where
-    go : (o : AccessOutcome)
-        → abortNumber (abortDone o (tryMemoryAccess regions core counter trap .counter) core (injectDataAbort core counter trap) .answer)
-        ≡ cond (isUnhandled o && eqb (trap .vbar) 0) 13 0
-    go (Loaded register value) = refl
-    go Stored = refl
-    go Unhandled = cond-map (λ (s : AbortStep). abortNumber (s .answer)) (eqb (trap .vbar) 0) _ _
+-- The step goes by what comes of the access: nothing handles it exactly where an injection is due.
+module _ (regions : List MemoryAccessRegion) (core : Core) (counter : ℕ) (trap : TrapRegisters) where
+  abbrev access : MemoryAccess
+  access = accessBy trap
+
+  abbrev found : RegionFound
+  found = findRegion regions (access .ipa)
+
+  abbrev rt : ℕ
+  rt = readValue (readGpr core (access .«register_index»))
+
+  abbrev injection : AbortStep
+  injection = injectDataAbort core counter trap
+
+  handled-by : (kind : MemoryAccessKind)
+      → handled kind access (offsetIn found) core counter
+      ≡ (let e = done kind access (offsetIn found) counter in stepBy (e .outcome) (e .counter) core injection)
+  handled-by Read = refl
+  handled-by Write = refl
+
+  access-by : (kind : MemoryAccessKind)
+      → cond (notHandled kind found access rt counter) injection (handled kind access (offsetIn found) core counter)
+      ≡ (let e = emulate kind found access rt counter in stepBy (e .outcome) (e .counter) core injection)
+  unfolding emulate
+  access-by kind = go (notHandled kind found access rt counter)
+    where
+      go : (b : Bool) → cond b injection (handled kind access (offsetIn found) core counter)
+          ≡ (let e = cond b (unhandled counter) (done kind access (offsetIn found) counter) in stepBy (e .outcome) (e .counter) core injection)
+      go true = refl
+      go false = handled-by kind
+
+  pub by-outcome : handleDataAbort regions core counter trap
+      ≡ (let e = tryMemoryAccess regions core counter trap in stepBy (e .outcome) (e .counter) core injection)
+  unfolding handleDataAbort injectionDue tryMemoryAccess decodeAccess
+  by-outcome = go (isv (iss (trap .esr)))
+    where
+      go : (valid : Bool)
+          → cond (not valid || notHandled (access .kind) found access rt counter) injection (handled (access .kind) access (offsetIn found) core counter)
+          ≡ (let e = emulateDecoded (cond valid (Access access) NoSyndrome) regions core counter in stepBy (e .outcome) (e .counter) core injection)
+      go false = refl
+      go true = access-by (access .kind)
+
+  handled-answer : (kind : MemoryAccessKind) → handled kind access (offsetIn found) core counter .answer ≡ Handled kind
+  handled-answer Read = refl
+  handled-answer Write = refl
+
+  -- each answer exactly in its case: the abort where an injection is due, 13 where VBAR is 0 then, else the access in its direction
+  pub abort-answer : handleDataAbort regions core counter trap .answer
+      ≡ cond (injectionDue regions core counter trap) (cond (eqb (trap .vbar) 0) NoGuestVector Injected) (Handled (access .kind))
+  unfolding handleDataAbort injectDataAbort
+  abort-answer =
+      cond-map (λ (s : AbortStep). s .answer) (injectionDue regions core counter trap) _ _
+      ∙ ap₂ (cond (injectionDue regions core counter trap)) (cond-map (λ (s : AbortStep). s .answer) (eqb (trap .vbar) 0) _ _)
+      (handled-answer (access .kind))
+
+  -- 13 exactly where an injection is due and VBAR is 0
+  pub abort-number : abortNumber (handleDataAbort regions core counter trap .answer)
+      ≡ cond (injectionDue regions core counter trap && eqb (trap .vbar) 0) 13 0
+  abort-number = ap abortNumber abort-answer ∙ go (injectionDue regions core counter trap) (eqb (trap .vbar) 0)
+    where
+      go : (due none : Bool) → abortNumber (cond due (cond none NoGuestVector Injected) (Handled (access .kind))) ≡ cond (due && none) 13 0
+      go true true = refl
+      go true false = refl
+      go false none = refl
 
 -- A refusal changes nothing.
 module _ (regions : List MemoryAccessRegion) (core : Core) (counter : ℕ) (trap : TrapRegisters) where
-  -- the step, by what comes of the access and by whether VBAR is 0
-  abbrev stepBy : AccessOutcome → Bool → AbortStep
-  stepBy o no-vector =
-      abortDone o (tryMemoryAccess regions core counter trap .counter) core
-      (cond no-vector (record { answer = NoGuestVector; core = core; counter = counter })
-      (record { answer = Injected; core = injected core trap; counter = counter }))
+  abbrev Kept : AbortStep → Type 0
+  Kept step = (abortNumber (step .answer) ≡ 0 → ⊥) → (step .core ≡ core) × (step .counter ≡ counter)
 
-  refused-by : (o : AccessOutcome) (no-vector : Bool) → (abortNumber (stepBy o no-vector .answer) ≡ 0 → ⊥)
-      → (stepBy o no-vector .core ≡ core) × (stepBy o no-vector .counter ≡ counter)
-  refused-by (Loaded register value) no-vector h = absurd (h refl)
-  refused-by Stored no-vector h = absurd (h refl)
-  refused-by Unhandled true h = (refl, refl)
-  refused-by Unhandled false h = absurd (h refl)
+  handled-accepted : (kind : MemoryAccessKind) (access : MemoryAccess) (offset : ℕ) → Kept (handled kind access offset core counter)
+  handled-accepted Read access offset h = absurd (h refl)
+  handled-accepted Write access offset h = absurd (h refl)
 
-  pub abort-refused : (abortNumber (handleDataAbort regions core counter trap .answer) ≡ 0 → ⊥)
-      → (handleDataAbort regions core counter trap .core ≡ core) × (handleDataAbort regions core counter trap .counter ≡ counter)
+  pub abort-refused : Kept (handleDataAbort regions core counter trap)
   unfolding handleDataAbort injectDataAbort
-  abort-refused h = refused-by (tryMemoryAccess regions core counter trap .outcome) (eqb (trap .vbar) 0) h
+  abort-refused =
+      cond-all Kept (injectionDue regions core counter trap) _ _
+      (cond-all Kept (eqb (trap .vbar) 0) _ _ (λ h. (refl, refl)) (λ h. absurd (h refl)))
+      (handled-accepted (accessBy trap .kind) (accessBy trap) _)
 
 -- What holds of the core and the counter as they were, after a handled load, after a handled store and after an injection, holds after a
 -- data abort.
@@ -110,53 +144,21 @@ module _ (P : Core → ℕ → Type 0) (core : Core) (counter : ℕ) (same : P c
     (load : (access : MemoryAccess) (value : ℕ) (loads : Bool)
     → P (advancePc (writeGpr core (access .«register_index») (extendReadResult access value) .core)) (counterAfter loads counter))
     (store : P (advancePc core) counter) where
-  abbrev After : Emulated → Type 0
-  After emulated = (injection : AbortStep) → P (injection .core) (injection .counter) →
-      let step = abortDone (emulated .outcome) (emulated .counter) core injection in
-      P (step .core) (step .counter)
+  abbrev After : AbortStep → Type 0
+  After step = P (step .core) (step .counter)
 
-  unhandled-after : After (unhandled counter)
-  unhandled-after injection h = h
-
-  by-read : (result : MemoryReadResult) (loads : Bool) (access : MemoryAccess) → After (readDone result (counterAfter loads counter) access counter)
-  by-read (read.Value value) loads access injection h = load access value loads
-  by-read read.Fault loads access injection h = h
-
-  by-write : (result : MemoryWriteResult) → After (writeDone result counter)
-  by-write write.Handled injection h = store
-  by-write write.Fault injection h = h
-
-  by-read-handler : (handler : MemoryHandler) (access : MemoryAccess) (offset : ℕ) → After (readThrough handler access offset counter)
-  unfolding readThrough readFilteredMmio
-  by-read-handler Absent access offset = unhandled-after
-  by-read-handler FilteredMmio access offset =
-      let asked : MemoryReadAccess = record { ipa = access .ipa; offset = offset; width = access .width } in
-      by-read (readFilteredMmio asked counter .result) (loadsCounter asked) access
-
-  by-write-handler : (handler : MemoryHandler) (access : MemoryAccess) (offset rt : ℕ) → After (writeThrough handler access offset rt counter)
-  unfolding writeThrough
-  by-write-handler Absent access offset rt = unhandled-after
-  by-write-handler FilteredMmio access offset rt = by-write (writeFilteredMmio _)
-
-  by-kind : (kind : MemoryAccessKind) (m : MemoryAccessHandlerMatch) (access : MemoryAccess) (rt : ℕ) → After (accessIn kind m access rt counter)
-  unfolding accessIn
-  by-kind Read m access rt = by-read-handler (m .region .handler .read) access (m .offset)
-  by-kind Write m access rt = by-write-handler (m .region .handler .write) access (m .offset) rt
-
-  by-found : (found : RegionFound) (access : MemoryAccess) (rt : ℕ) → After (emulateAccess found access rt counter)
-  by-found Nothing access rt = unhandled-after
-  by-found (Match m) access rt = by-kind (access .kind) m access rt
-
-  by-decoded : (decoded : Decoded) (regions : List MemoryAccessRegion) → After (accessDecoded decoded regions core counter)
-  by-decoded NoSyndrome regions = unhandled-after
-  by-decoded (Access access) regions = by-found (findRegion regions (access .ipa)) access _
+  after-handled : (kind : MemoryAccessKind) (access : MemoryAccess) (offset : ℕ) → After (handled kind access offset core counter)
+  unfolding readFilteredMmio
+  after-handled Read access offset =
+      load access (wordRead (readFilteredMmio (pageRead access offset) counter .result)) (loadsCounter (pageRead access offset))
+  after-handled Write access offset = store
 
   pub abort-all : (regions : List MemoryAccessRegion) (trap : TrapRegisters) → P (injected core trap) counter
-      → P (handleDataAbort regions core counter trap .core) (handleDataAbort regions core counter trap .counter)
-  unfolding handleDataAbort tryMemoryAccess injectDataAbort
+      → After (handleDataAbort regions core counter trap)
+  unfolding handleDataAbort injectDataAbort
   abort-all regions trap injection =
-      by-decoded (decodeAccess (iss (trap .esr)) (trap .fipa) (trap .far)) regions (injectDataAbort core counter trap)
-      (cond-all (λ (s : AbortStep). P (s .core) (s .counter)) (eqb (trap .vbar) 0) _ _ same injection)
+      cond-all After (injectionDue regions core counter trap) _ _ (cond-all After (eqb (trap .vbar) 0) _ _ same injection)
+      (after-handled (accessBy trap .kind) (accessBy trap) _)
 
 -- a data abort leaves what the core waits for
 pub abort-wait : (regions : List MemoryAccessRegion) (core : Core) (counter : ℕ) (trap : TrapRegisters)

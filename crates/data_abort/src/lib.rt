@@ -1,8 +1,11 @@
 // RITM's src/hypervisor.rs, its data aborts: the access is handled, or the guest gets the abort.
 ghost use mathlib.Core.Path.{_≡_};
 ghost use Rattle.lists.specs.Lists.{held};
+ghost use Rattle.memory_access.specs.declared.MemoryAccessKind.the-variants.{Read, Write};
 ghost use Rattle.memory_access.specs.Syndrome.{decodeAccess};
-ghost use Rattle.data_abort.specs.DataAbort.{iss, abortNumber, unhandled, readThrough, writeThrough, accessIn, emulateAccess, tryMemoryAccess, withEc, injectionOf, injectDataAbort, handleDataAbort};
+ghost use Rattle.stage2_range.specs.declared.RegionFound.the-variants.{Match};
+ghost use Rattle.data_abort.specs.DataAbort.{iss, abortNumber, withEc, injectionOf, injectDataAbort, handleDataAbort};
+ghost use Rattle.data_abort.specs.Outcome.{unhandled, through, emulateAccess, tryMemoryAccess};
 use exceptions::Core;
 use exceptions::FaultRegisters;
 use memory_access::Decoded;
@@ -157,7 +160,7 @@ fn access_in(
     rt: u64,
     counter: u64,
 ) -> Emulated
-    ensures { λ r. ⌜ r ≡ accessIn (access .kind) found access rt counter ⌝ }
+    ensures { λ r. ⌜ r ≡ emulateAccess (Match found) access rt counter ⌝ }
 {
     let region = found.region;
     let handler = region.handler;
@@ -175,7 +178,7 @@ fn access_in(
 }
 
 fn read_through(handler: MemoryHandler, access: MemoryAccess, offset: u64, counter: u64) -> Emulated
-    ensures { λ r. ⌜ r ≡ readThrough handler access offset counter ⌝ }
+    ensures { λ r. ⌜ r ≡ through Read handler access offset 0 counter ⌝ }
 {
     let ipa = access.ipa;
     let width = access.width;
@@ -205,7 +208,7 @@ fn write_through(
     rt: u64,
     counter: u64,
 ) -> Emulated
-    ensures { λ r. ⌜ r ≡ writeThrough handler access offset rt counter ⌝ }
+    ensures { λ r. ⌜ r ≡ through Write handler access offset rt counter ⌝ }
 {
     let ipa = access.ipa;
     let width = access.width;

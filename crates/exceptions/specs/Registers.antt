@@ -6,6 +6,7 @@ use lib.Dec.{eqb, ltb}
 use lib.ListN.{getD, set, replicate}
 use Rattle.exceptions.specs.declared.Wait.the-variants.{Nothing}
 use Rattle.exceptions.specs.declared.Core.{Core}
+use Rattle.exceptions.specs.declared.FaultRegisters.{FaultRegisters}
 use Rattle.exceptions.specs.declared.GprRead.{GprRead}
 use Rattle.exceptions.specs.declared.GprRead.the-variants.{Value, NoSuchRegister}
 use Rattle.exceptions.specs.declared.GprWrite.{GprWrite}
@@ -35,6 +36,10 @@ advancePc core = record {
 -- the core with other registers x0 to x30
 unfoldable pub withRegisters : Core → List ℕ → Core
 withRegisters core x = record { x = x; elr = core .elr; spsr = core .spsr; el1 = core .el1; wait = core .wait }
+
+-- the core with another ELR and SPSR and other EL1 registers: where it goes on, and with what
+abbrev pub withReturn : Core → ℕ → ℕ → FaultRegisters → Core
+withReturn core elr spsr el1 = record { x = core .x; elr = elr; spsr = spsr; el1 = el1; wait = core .wait }
 
 -- "Registers x0 to x30"; index 31 "reads 0"; an index above 31 is refused
 unfoldable pub readGpr : Core → ℕ → GprRead

@@ -24,7 +24,7 @@ use Rattle.hvc_response.specs.Response.{resultOfKind}
 use Rattle.forwarded_call.specs.declared.HvcReply.{HvcReply}
 use Rattle.forwarded_call.specs.declared.ReplyAnswer.the-variants.{UnknownReplyKind}
 use Rattle.forwarded_call.specs.declared.Replied.{Replied}
-use Rattle.forwarded_call.specs.ForwardedCall.{between, withWait, waits, waitsForFirmware, replyNumber, refused, mayReply, resumed, replied, completeCall, replyTo, replyCore}
+use Rattle.forwarded_call.specs.ForwardedCall.{between, withWait, waits, waitsForFirmware, replyNumber, refusedReply, mayReply, resumed, replied, completeCall, replyTo, replyCore}
 
 -- A number lies between two others, or below the one, or above the other.
 module _ (low high n : ℕ) where
@@ -111,7 +111,7 @@ complete-done conduit core reply =
 reply-to-done : (wait : Wait) (core : Core) (reply : HvcReply) → ReplyDone core (replyTo wait core reply)
 reply-to-done Nothing core reply = record { refused-keeps = λ h. refl; wait-ends = refl }
 reply-to-done (Call conduit recipient) core reply =
-    cond-all (ReplyDone core) (mayReply recipient (reply .kind)) (completeCall conduit core reply) (refused UnknownReplyKind core)
+    cond-all (ReplyDone core) (mayReply recipient (reply .kind)) (completeCall conduit core reply) (refusedReply UnknownReplyKind core)
     (complete-done conduit core reply)
     (record { refused-keeps = λ h. refl; wait-ends = refl })
 

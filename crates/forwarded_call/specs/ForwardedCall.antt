@@ -71,8 +71,8 @@ replyNumber NothingWaiting = 14
 replyNumber UnknownReplyKind = 15
 
 -- a refusal leaves the core as it was
-abbrev pub refused : ReplyAnswer → Core → Replied
-refused answer core = record { answer = answer; core = core }
+abbrev pub refusedReply : ReplyAnswer → Core → Replied
+refusedReply answer core = record { answer = answer; core = core }
 
 -- 15 is met where a kind is "not 1 or 4 for the firmware"
 unfoldable pub mayReply : Recipient → ℕ → Bool
@@ -87,7 +87,7 @@ resumed Smc core = withWait (advancePc core) Nothing
 -- "The reply writes its registers"; 15: "kind above 4"
 abbrev pub replied : HvcResultKind → Conduit → Core → List ℕ → Replied
 replied (Result result) conduit core values = record { answer = Accepted; core = resumed conduit (withFirst core (response result values)) }
-replied UnknownKind conduit core values = refused UnknownReplyKind core
+replied UnknownKind conduit core values = refusedReply UnknownReplyKind core
 
 -- a reply to a forwarded call, by its kind
 unfoldable pub completeCall : Conduit → Core → HvcReply → Replied
@@ -95,9 +95,9 @@ completeCall conduit core reply = replied (resultOfKind (reply .kind) (getD (rep
 
 -- 14: "reply to a core that waits for none"
 abbrev pub replyTo : Wait → Core → HvcReply → Replied
-replyTo Nothing core reply = refused NothingWaiting core
+replyTo Nothing core reply = refusedReply NothingWaiting core
 replyTo (Call conduit recipient) core reply =
-    cond (mayReply recipient (reply .kind)) (completeCall conduit core reply) (refused UnknownReplyKind core)
+    cond (mayReply recipient (reply .kind)) (completeCall conduit core reply) (refusedReply UnknownReplyKind core)
 
 unfoldable pub replyCore : Core → HvcReply → Replied
 replyCore core reply = replyTo (core .wait) core reply

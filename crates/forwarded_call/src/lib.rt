@@ -1,7 +1,7 @@
 // RITM's src/hypervisor.rs, its HVC and SMC calls: each is handed out to its recipient, whose reply the core then takes.
 ghost use mathlib.Core.Path.{_≡_};
 ghost use Prim.Native.Nat.{_≤_};
-ghost use Rattle.forwarded_call.specs.ForwardedCall.{replyNumber, recipientOf, registersFor, forwardedValues, withWait, forwardCall, refused, mayReply, resumed, completeCall, replyCore};
+ghost use Rattle.forwarded_call.specs.ForwardedCall.{replyNumber, recipientOf, registersFor, forwardedValues, withWait, forwardCall, refusedReply, mayReply, resumed, completeCall, replyCore};
 use exceptions::Conduit;
 use exceptions::Core;
 use exceptions::Recipient;
@@ -111,7 +111,7 @@ fn wait_for(core: Core, wait: Wait) -> Core
 }
 
 fn refuse(answer: ReplyAnswer, core: Core) -> Replied
-    ensures { λ r. ⌜ r ≡ refused answer core ⌝ }
+    ensures { λ r. ⌜ r ≡ refusedReply answer core ⌝ }
 {
     Replied { answer, core }
 }

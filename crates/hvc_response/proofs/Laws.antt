@@ -17,7 +17,7 @@ use mir.Syntax.{w32}
 use mir.Val.{SFits, toZ, ofZ}
 use mir.ValLaws.{toZ-pos}
 use Rattle.hvc_response.specs.declared.HvcResultKind.the-variants.{UnknownKind}
-use Rattle.hvc_response.specs.Response.{signedWord, withFirst, resultOfKind, kindNumber}
+use Rattle.hvc_response.specs.Response.{signedWord, withFirst, resultOfKind, resultKindNumber}
 
 -- -1 less a negative number is one less than its amount
 less-one : (n : ℕ) → negsuc 0 -ℤ negsuc n ≡ pos n
@@ -87,7 +87,7 @@ unknown-kind (suc (suc (suc (suc zero)))) value error a b c d e = absurd (e refl
 unknown-kind (suc (suc (suc (suc (suc n))))) value error a b c d e = refl
 
 -- 15 exactly where the kind is above 4
-pub kind-number : (kind value : ℕ) (error : ℤ) → kindNumber (resultOfKind kind value error) ≡ cond (ltb 4 kind) 15 0
+pub kind-number : (kind value : ℕ) (error : ℤ) → resultKindNumber (resultOfKind kind value error) ≡ cond (ltb 4 kind) 15 0
 unfolding resultOfKind
 kind-number zero value error = refl
 kind-number (suc zero) value error = refl

@@ -38,6 +38,6 @@ resultOfKind kind value error =
     getD (Result Unhandled ∷ Result (Value value) ∷ Result Success ∷ Result SuccessLarge ∷ Result (Error error) ∷ []) kind UnknownKind
 
 -- the number of an answer in document 01's table
-abbrev pub kindNumber : HvcResultKind → ℕ
-kindNumber (Result r) = 0
-kindNumber UnknownKind = 15
+abbrev pub resultKindNumber : HvcResultKind → ℕ
+resultKindNumber (Result r) = 0
+resultKindNumber UnknownKind = 15

@@ -3,7 +3,7 @@ ghost use mathlib.Core.Path.{_≡_};
 ghost use mathlib.Core.List.{_∷_};
 ghost use Prim.Native.Nat.{_≤_};
 ghost use lib.ListN.{take, replicate};
-ghost use Rattle.hvc_response.specs.Response.{signedWord, withFirst, response, resultOfKind, kindNumber};
+ghost use Rattle.hvc_response.specs.Response.{signedWord, withFirst, response, resultOfKind, resultKindNumber};
 use exceptions::Core;
 
 // The result of a forwarded call (document 01: a reply): RITM's `HvcResult` and `HvcResponse` in one. The four or eighteen values of a
@@ -25,7 +25,7 @@ pub enum HvcResultKind {
 impl HvcResultKind {
     // The answer's number in the table of refusals.
     pub fn number(self) -> u64
-        ensures { λ r. ⌜ r ≡ kindNumber self ⌝ }
+        ensures { λ r. ⌜ r ≡ resultKindNumber self ⌝ }
     {
         match self {
             HvcResultKind::Result(_) => 0,

@@ -16,7 +16,7 @@ use Rattle.data_abort.specs.declared.TrapRegisters.{TrapRegisters}
 use Rattle.data_abort.specs.DataAbort.{handleDataAbort}
 use Rattle.forwarded_call.specs.ForwardedCall.{waits, forwardCall}
 use Rattle.hypervisor.specs.declared.TrapStep.{TrapStep}
-use Rattle.hypervisor.specs.Answers.{answered, refused}
+use Rattle.hypervisor.specs.Answers.{answered, refusedTrap}
 use Rattle.hypervisor.specs.Trap.{ec, classOf, exceptionClass, byClass, handleSyncLower}
 
 -- what holds of each class where its EC is the one, holds of the class of an EC

@@ -20,25 +20,25 @@ use Rattle.hypervisor.specs.declared.TrapAnswer.the-variants.{AccessHand
 use Rattle.hypervisor.specs.declared.TrapStep.{TrapStep}
 
 -- the numbers of the refusals in document 01's table
-abbrev pub errorNumber : CoreError → ℕ
-errorNumber NoSuchCore = 10
-errorNumber CoreWaiting = 11
-errorNumber UnexpectedExceptionClass = 12
-errorNumber NoGuestVector = 13
-errorNumber NothingWaiting = 14
-errorNumber UnknownReplyKind = 15
+abbrev pub coreErrorNumber : CoreError → ℕ
+coreErrorNumber NoSuchCore = 10
+coreErrorNumber CoreWaiting = 11
+coreErrorNumber UnexpectedExceptionClass = 12
+coreErrorNumber NoGuestVector = 13
+coreErrorNumber NothingWaiting = 14
+coreErrorNumber UnknownReplyKind = 15
 
 -- the number of a save's or a reply's answer: 0 where it is accepted
 abbrev pub coreNumber : CoreAnswer → ℕ
 coreNumber core-answer.Accepted = 0
-coreNumber (core-answer.Refused error) = errorNumber error
+coreNumber (core-answer.Refused error) = coreErrorNumber error
 
 -- the number of a trap's answer: 0 where it is accepted
 abbrev pub trapNumber : TrapAnswer → ℕ
 trapNumber (AccessHandled kind) = 0
 trapNumber AbortInjected = 0
 trapNumber (Forwarded recipient) = 0
-trapNumber (Refused error) = errorNumber error
+trapNumber (Refused error) = coreErrorNumber error
 
 -- which of "load handled, store handled, abort injected, to the firmware .., to the platform" an accepted trap answers, from 1 on
 abbrev pub trapKind : TrapAnswer → ℕ
@@ -70,8 +70,8 @@ unfoldable pub answered : TrapAnswer → Core → ℕ → TrapStep
 answered answer core counter = record { answer = answer; values = noValues; core = core; counter = counter }
 
 -- "A refusal returns its number with every other result field 0, and all state is as before"
-abbrev pub refused : CoreError → Core → ℕ → TrapStep
-refused error core counter = answered (Refused error) core counter
+abbrev pub refusedTrap : CoreError → Core → ℕ → TrapStep
+refusedTrap error core counter = answered (Refused error) core counter
 
 -- a forwarded call, as a trap's step: its registers are the values
 abbrev pub forwarded : ForwardedCall → ℕ → TrapStep

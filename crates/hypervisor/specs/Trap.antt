@@ -14,7 +14,7 @@ use Rattle.hypervisor.specs.declared.CoreError.the-variants.{CoreWaiting
 use Rattle.hypervisor.specs.declared.ExceptionClass.{ExceptionClass}
 use Rattle.hypervisor.specs.declared.ExceptionClass.the-variants.{HvcTrappedInAArch64, SmcTrappedInAArch64, DataAbortLowerEl, Unknown}
 use Rattle.hypervisor.specs.declared.TrapStep.{TrapStep}
-use Rattle.hypervisor.specs.Answers.{abortAnswer, answered, refused, forwarded}
+use Rattle.hypervisor.specs.Answers.{abortAnswer, answered, refusedTrap, forwarded}
 
 -- "EC is ESR bits 31:26"
 abbrev pub ec : ℕ → ℕ
@@ -38,10 +38,10 @@ byClass SmcTrappedInAArch64 regions core counter trap = forwarded (forwardCall c
 byClass DataAbortLowerEl regions core counter trap =
     let step = handleDataAbort regions core counter trap in
     answered (abortAnswer (step .answer)) (step .core) (step .counter)
-byClass Unknown regions core counter trap = refused UnexpectedExceptionClass core counter
+byClass Unknown regions core counter trap = refusedTrap UnexpectedExceptionClass core counter
 
 -- the trap of one core, by the regions that are held; 11: "trap or save while waiting"
 unfoldable pub handleSyncLower : List MemoryAccessRegion → Core → ℕ → TrapRegisters → TrapStep
 handleSyncLower regions core counter trap =
-    cond (waits (core .wait)) (refused CoreWaiting core counter)
+    cond (waits (core .wait)) (refusedTrap CoreWaiting core counter)
     (byClass (exceptionClass (trap .esr)) regions core counter trap)

@@ -3,7 +3,7 @@ ghost use mathlib.Core.Path.{_≡_};
 ghost use Prim.Native.Nat.{_<_};
 ghost use lib.ListN.{replicate};
 ghost use Rattle.lists.specs.Lists.{held};
-ghost use Rattle.hypervisor.specs.Answers.{errorNumber, coreNumber, trapNumber, trapKind, abortAnswer, replyAnswer, answered, refused, forwarded, refusedCore};
+ghost use Rattle.hypervisor.specs.Answers.{coreErrorNumber, coreNumber, trapNumber, trapKind, abortAnswer, replyAnswer, answered, refusedTrap, forwarded, refusedCore};
 ghost use Rattle.hypervisor.specs.Trap.{exceptionClass, byClass, handleSyncLower};
 ghost use Rattle.hypervisor.specs.Cores.{freshCores, saveCore, noSuchCore, placed, saveOn, replyOn, trapOn};
 use data_abort::AbortAnswer;
@@ -77,7 +77,7 @@ pub struct CoresStep {
 impl CoreError {
     // The refusal's number.
     pub fn number(self) -> u64
-        ensures { λ r. ⌜ r ≡ errorNumber self ⌝ }
+        ensures { λ r. ⌜ r ≡ coreErrorNumber self ⌝ }
     {
         match self {
             CoreError::NoSuchCore => 10,
@@ -153,7 +153,7 @@ fn without_values(answer: TrapAnswer, core: Core, counter: u64) -> TrapStep
 }
 
 fn refuse(error: CoreError, core: Core, counter: u64) -> TrapStep
-    ensures { λ r. ⌜ r ≡ refused error core counter ⌝ }
+    ensures { λ r. ⌜ r ≡ refusedTrap error core counter ⌝ }
 {
     without_values(TrapAnswer::Refused(error), core, counter)
 }

@@ -19,7 +19,8 @@ use Rattle.words.proofs.InPlace.{words-rewritten, words-set}
 use Rattle.exceptions.specs.declared.Core.{Core}
 use Rattle.exceptions.specs.declared.GprWritten.{GprWritten}
 use Rattle.exceptions.specs.Registers.{freshCore, advancePc, withRegisters, writeGpr}
-use Rattle.cores_layout.specs.Layout.{waitOf, waitNumber, coreAt, withCore, coresAt}
+use Rattle.forwarded_call.specs.ForwardedCall.{forwardedValues}
+use Rattle.cores_layout.specs.Layout.{waitByCode, waitNumber, coreAt, withCore, coresAt}
 use Rattle.cores_layout.proofs.Records.{core-of, no-core, restWords, length-core}
 
 -- what is read of a core of any number: above 7, what a fresh core has
@@ -58,27 +59,28 @@ module _ (b : List ℕ) (i count : ℕ) where
   word j = cond (ltb 7 i) 0 (wordAt b (38 * i + j))
 
   -- of which there are eighteen
-  abbrev pub firstOf : List ℕ
-  firstOf = take (min count 18) (getD (coresAt b) i freshCore .x) ++ replicate (18 - min count 18) 0
+  abbrev pub firstValues : List ℕ
+  firstValues = forwardedValues (getD (coresAt b) i freshCore .x) (min count 18)
 
-  first-words : firstOf ≡ each word 0 (min count 18) ++ replicate (18 - min count 18) 0
+  first-words : firstValues ≡ each word 0 (min count 18) ++ replicate (18 - min count 18) 0
+  unfolding forwardedValues
   first-words = ap (λ (l : List ℕ). l ++ replicate (18 - min count 18) 0) (ap (take (min count 18)) (core-x b i) ∙ take-each word 0 31 (min count 18) (omega arith))
 
-  pub length-first : length firstOf ≡ 18
+  pub length-first : length firstValues ≡ 18
   length-first =
       ap length first-words
       ∙ length-append (each word 0 (min count 18)) (replicate (18 - min count 18) 0)
       ∙ omega (arith, length-each word 0 (min count 18), length-replicate {A = ℕ} (18 - min count 18) 0)
 
   -- one that is a register, and one past them
-  pub first-within : (k : ℕ) → k < min count 18 → getD firstOf k 0 ≡ word k
+  pub first-within : (k : ℕ) → k < min count 18 → getD firstValues k 0 ≡ word k
   first-within k h =
       ap (λ (l : List ℕ). getD l k 0) first-words
       ∙ List·getD-append (each word 0 (min count 18)) (replicate (18 - min count 18) 0) 0 k (omega (arith, length-each word 0 (min count 18)))
       ∙ getD-each word 0 (min count 18) k 0 h
       ∙ ap word (zero-add k)
 
-  pub first-past : (k : ℕ) → min count 18 ≤ k → getD firstOf k 0 ≡ 0
+  pub first-past : (k : ℕ) → min count 18 ≤ k → getD firstValues k 0 ≡ 0
   first-past k h = ap (λ (l : List ℕ). getD l k 0) first-words ∙ past (each word 0 (min count 18)) (18 - min count 18) k (omega (arith, length-each word 0 (min count 18)))
     where
       zeros : (n k : ℕ) → getD (replicate {A = ℕ} n 0) k 0 ≡ 0
@@ -92,11 +94,11 @@ module _ (b : List ℕ) (i count : ℕ) where
       past (x ∷ xs) n (suc k) h = past xs n k (omega arith)
 
 -- to write what a word means keeps the word
-wait-kept : (w : ℕ) → keptCode 5 w (waitNumber (waitOf w)) ≡ w
-unfolding waitOf
+wait-kept : (w : ℕ) → keptCode 5 w (waitNumber (waitByCode w)) ≡ w
+unfolding waitByCode
 wait-kept w = ap (keptCode 5 w) (number w) ∙ code-kept 5 w
   where
-    number : (code : ℕ) → waitNumber (waitOf code) ≡ readCode 5 code
+    number : (code : ℕ) → waitNumber (waitByCode code) ≡ readCode 5 code
     number zero = refl
     number (suc zero) = refl
     number (suc (suc zero)) = refl

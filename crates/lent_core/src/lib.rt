@@ -1,14 +1,13 @@
 // One core of the bytes that a host lends, in place: the words that a step asks for are read and stored, and no others. A core above 7 reads as a fresh
 // one and takes no store.
 ghost use mathlib.Core.Path.{_≡_};
-ghost use mathlib.Core.List.{_∷_, _++_};
-ghost use Prim.Native.Nat.{_+_, _-_, _*_, _%_, _^_, _<_, min};
-ghost use mathlib.Core.Bool.{cond};
-ghost use lib.Dec.{ltb};
-ghost use lib.ListN.{getD, take, replicate};
-ghost use Rattle.words.specs.Words.{wordAt, withWord, bytesOf};
-ghost use Rattle.exceptions.specs.Registers.{freshCore, advancePc, readGpr, writeGpr};
-ghost use Rattle.cores_layout.specs.Layout.{coresAt, withCore};
+ghost use mathlib.Core.List.{_∷_};
+ghost use Prim.Native.Nat.{_+_, _%_, _^_, _<_, min};
+ghost use lib.ListN.{getD};
+ghost use Rattle.words.specs.Words.{bytesOf};
+ghost use Rattle.exceptions.specs.Registers.{advancePc, readGpr, writeGpr, withReturn};
+ghost use Rattle.forwarded_call.specs.ForwardedCall.{forwardedValues, withWait};
+ghost use Rattle.cores_layout.specs.Layout.{heldCore, storedCore, heldWord, storedWord};
 use cores_layout::CORES_SIZE;
 use cores_layout::TRAP_RESULT_SIZE;
 use exceptions::FaultRegisters;
@@ -22,7 +21,7 @@ const INSTRUCTION_LENGTH: u64 = 4;
 // One word of a core, 0 where there is no core of that number.
 fn get_at(cores: &[u8; CORES_SIZE], core: u64, word: usize) -> u64
     requires { ⌜ word < 38 ⌝ }
-    ensures { λ r. ⌜ r ≡ cond (ltb 7 core) 0 (wordAt (now (cores .entry)) (38 * core + word)) ⌝ }
+    ensures { λ r. ⌜ r ≡ heldWord (now (cores .entry)) core word ⌝ }
 {
     if core < 8 {
         words::get_word(cores, 38 * core as usize + word)
@@ -33,28 +32,28 @@ fn get_at(cores: &[u8; CORES_SIZE], core: u64, word: usize) -> u64
 
 // What a core waits for.
 pub fn get_wait(cores: &[u8; CORES_SIZE], core: u64) -> Wait
-    ensures { λ r. ⌜ r ≡ getD (coresAt (now (cores .entry))) core freshCore .wait ⌝ }
+    ensures { λ r. ⌜ r ≡ heldCore (now (cores .entry)) core .wait ⌝ }
 {
     cores_layout::wait_of(get_at(cores, core, 37))
 }
 
 // A core's ELR.
 pub fn get_elr(cores: &[u8; CORES_SIZE], core: u64) -> u64
-    ensures { λ r. ⌜ r ≡ getD (coresAt (now (cores .entry))) core freshCore .elr ⌝ }
+    ensures { λ r. ⌜ r ≡ heldCore (now (cores .entry)) core .elr ⌝ }
 {
     get_at(cores, core, 31)
 }
 
 // A core's SPSR.
 pub fn get_spsr(cores: &[u8; CORES_SIZE], core: u64) -> u64
-    ensures { λ r. ⌜ r ≡ getD (coresAt (now (cores .entry))) core freshCore .spsr ⌝ }
+    ensures { λ r. ⌜ r ≡ heldCore (now (cores .entry)) core .spsr ⌝ }
 {
     get_at(cores, core, 32)
 }
 
 // The value of a guest register.
 pub fn get_gpr(cores: &[u8; CORES_SIZE], core: u64, index: usize) -> GprRead
-    ensures { λ r. ⌜ r ≡ readGpr (getD (coresAt (now (cores .entry))) core freshCore) index ⌝ }
+    ensures { λ r. ⌜ r ≡ readGpr (heldCore (now (cores .entry)) core) index ⌝ }
 {
     match index {
         0..=30 => GprRead::Value(get_at(cores, core, index)),
@@ -66,7 +65,7 @@ pub fn get_gpr(cores: &[u8; CORES_SIZE], core: u64, index: usize) -> GprRead
 // One of the first `count` registers, zeros past them.
 fn first_at(cores: &[u8; CORES_SIZE], core: u64, count: usize, index: usize) -> u64
     requires { ⌜ index < 18 ⌝ }
-    ensures { λ r. ⌜ r ≡ getD (take (min count 18) (getD (coresAt (now (cores .entry))) core freshCore .x) ++ replicate (18 - min count 18) 0) index 0 ⌝ }
+    ensures { λ r. ⌜ r ≡ getD (forwardedValues (heldCore (now (cores .entry)) core .x) (min count 18)) index 0 ⌝ }
 {
     if index < count {
         get_at(cores, core, index)
@@ -83,7 +82,7 @@ pub fn put_forwarded(
     core: u64,
     count: usize,
 )
-    ensures { λ _. ⌜ now (result .exit) ≡ bytesOf (kind ∷ (take (min count 18) (getD (coresAt (now (cores .entry))) core freshCore .x) ++ replicate (18 - min count 18) 0)) ⌝ }
+    ensures { λ _. ⌜ now (result .exit) ≡ bytesOf (kind ∷ forwardedValues (heldCore (now (cores .entry)) core .x) (min count 18)) ⌝ }
 {
     words::put_word(result, 0, kind);
     let mut i: usize = 0;
@@ -96,7 +95,7 @@ pub fn put_forwarded(
 // Stores one word of a core, and nothing where there is no core of that number.
 fn put_at(cores: &mut [u8; CORES_SIZE], core: u64, word: usize, value: u64)
     requires { ⌜ word < 38 ⌝ }
-    ensures { λ _. ⌜ now (cores .exit) ≡ cond (ltb 7 core) (now (cores .entry)) (withWord (now (cores .entry)) (38 * core + word) value) ⌝ }
+    ensures { λ _. ⌜ now (cores .exit) ≡ storedWord (now (cores .entry)) core word value ⌝ }
 {
     if core < 8 {
         words::put_word(cores, 38 * core as usize + word, value);
@@ -105,7 +104,7 @@ fn put_at(cores: &mut [u8; CORES_SIZE], core: u64, word: usize, value: u64)
 
 // Stores an ELR past the instruction that it stands at.
 fn put_past(cores: &mut [u8; CORES_SIZE], core: u64, elr: u64)
-    ensures { λ _. ⌜ now (cores .exit) ≡ cond (ltb 7 core) (now (cores .entry)) (withWord (now (cores .entry)) (38 * core + 31) ((elr + 4) % 2 ^ 64)) ⌝ }
+    ensures { λ _. ⌜ now (cores .exit) ≡ storedWord (now (cores .entry)) core 31 ((elr + 4) % 2 ^ 64) ⌝ }
 {
     let past = std::num::wrapping_add_u64(elr, INSTRUCTION_LENGTH);
     put_at(cores, core, 31, past);
@@ -114,7 +113,7 @@ fn put_past(cores: &mut [u8; CORES_SIZE], core: u64, elr: u64)
 // A core past the instruction that trapped. Here and below, the core's words that are not stored stand as they would be stored, since they are bytes.
 pub fn put_advanced(cores: &mut [u8; CORES_SIZE], core: u64)
     ensures { λ _. ⌜ now (cores .exit)
-        ≡ cond (ltb 7 core) (now (cores .entry)) (withCore (now (cores .entry)) core (advancePc (getD (coresAt (now (cores .entry))) core freshCore))) ⌝ }
+        ≡ storedCore (now (cores .entry)) core (advancePc (heldCore (now (cores .entry)) core)) ⌝ }
 {
     words::are_bytes(cores);
     let elr = get_elr(cores, core);
@@ -123,9 +122,9 @@ pub fn put_advanced(cores: &mut [u8; CORES_SIZE], core: u64)
 
 // Writes a guest register.
 pub fn put_gpr(cores: &mut [u8; CORES_SIZE], core: u64, index: usize, value: u64) -> GprWrite
-    ensures { λ r. ⌜ (r ≡ writeGpr (getD (coresAt (now (cores .entry))) core freshCore) index value .answer)
+    ensures { λ r. ⌜ (r ≡ writeGpr (heldCore (now (cores .entry)) core) index value .answer)
         × (now (cores .exit)
-        ≡ cond (ltb 7 core) (now (cores .entry)) (withCore (now (cores .entry)) core (writeGpr (getD (coresAt (now (cores .entry))) core freshCore) index value .core))) ⌝ }
+        ≡ storedCore (now (cores .entry)) core (writeGpr (heldCore (now (cores .entry)) core) index value .core)) ⌝ }
 {
     words::are_bytes(cores);
     match index {
@@ -141,7 +140,7 @@ pub fn put_gpr(cores: &mut [u8; CORES_SIZE], core: u64, index: usize, value: u64
 // A load is done: its register takes the value, and ELR moves past the instruction.
 pub fn put_load(cores: &mut [u8; CORES_SIZE], core: u64, index: usize, value: u64)
     ensures { λ _. ⌜ now (cores .exit)
-        ≡ cond (ltb 7 core) (now (cores .entry)) (withCore (now (cores .entry)) core (advancePc (writeGpr (getD (coresAt (now (cores .entry))) core freshCore) index value .core))) ⌝ }
+        ≡ storedCore (now (cores .entry)) core (advancePc (writeGpr (heldCore (now (cores .entry)) core) index value .core)) ⌝ }
 {
     let trapped = get_elr(cores, core);
     put_gpr(cores, core, index, value);
@@ -151,13 +150,7 @@ pub fn put_load(cores: &mut [u8; CORES_SIZE], core: u64, index: usize, value: u6
 // Stores what a core waits for.
 pub fn put_wait(cores: &mut [u8; CORES_SIZE], core: u64, wait: Wait)
     ensures { λ _. ⌜ now (cores .exit)
-        ≡ cond (ltb 7 core) (now (cores .entry)) (withCore (now (cores .entry)) core (record {
-          x = getD (coresAt (now (cores .entry))) core freshCore .x;
-          elr = getD (coresAt (now (cores .entry))) core freshCore .elr;
-          spsr = getD (coresAt (now (cores .entry))) core freshCore .spsr;
-          el1 = getD (coresAt (now (cores .entry))) core freshCore .el1;
-          wait = wait;
-        })) ⌝ }
+        ≡ storedCore (now (cores .entry)) core (withWait (heldCore (now (cores .entry)) core) wait) ⌝ }
 {
     words::are_bytes(cores);
     if core < 8 {
@@ -174,13 +167,7 @@ pub fn put_wait(cores: &mut [u8; CORES_SIZE], core: u64, wait: Wait)
 // Stores a core's ELR, SPSR and EL1 registers, as an injected abort sets them.
 pub fn put_return(cores: &mut [u8; CORES_SIZE], core: u64, elr: u64, spsr: u64, el1: FaultRegisters)
     ensures { λ _. ⌜ now (cores .exit)
-        ≡ cond (ltb 7 core) (now (cores .entry)) (withCore (now (cores .entry)) core (record {
-          x = getD (coresAt (now (cores .entry))) core freshCore .x;
-          elr = elr;
-          spsr = spsr;
-          el1 = el1;
-          wait = getD (coresAt (now (cores .entry))) core freshCore .wait;
-        })) ⌝ }
+        ≡ storedCore (now (cores .entry)) core (withReturn (heldCore (now (cores .entry)) core) elr spsr el1) ⌝ }
 {
     words::are_bytes(cores);
     if core < 8 {

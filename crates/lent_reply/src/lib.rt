@@ -1,16 +1,13 @@
 // A reply to a forwarded call on the bytes that a host lends, in place: it stores the registers that the reply writes, ELR and the wait, and makes the
 // decisions of `forwarded_call` and `hvc_response`.
 ghost use mathlib.Core.Path.{_≡_};
-ghost use mathlib.Core.Bool.{cond};
 ghost use Prim.Native.Nat.{_+_, _<_, _≤_};
-ghost use lib.Dec.{ltb};
-ghost use lib.ListN.{getD, take};
+ghost use lib.ListN.{take};
 ghost use Rattle.words.specs.Words.{wordsAt, withWord, withWords, storeEach};
-ghost use Rattle.exceptions.specs.Registers.{freshCore};
-ghost use Rattle.cores_layout.specs.Layout.{coresAt, withCore};
+ghost use Rattle.cores_layout.specs.Layout.{heldCore, withCore};
 ghost use Rattle.hvc_response.specs.Response.{response, withFirst};
-ghost use Rattle.forwarded_call.specs.ForwardedCall.{resumed, completeCall, replyCore};
-ghost use Rattle.lent_reply.specs.LentReply.{resumedElr, repliedOne};
+ghost use Rattle.forwarded_call.specs.ForwardedCall.{resumed, completeCall};
+ghost use Rattle.lent_reply.specs.LentReply.{resumedElr, replyIn, repliedOne, repliedAny};
 use cores_layout::CORES_SIZE;
 use cores_layout::VALUES_SIZE;
 use exceptions::Conduit;
@@ -111,7 +108,7 @@ fn put_reply(
 )
     requires { ⌜ core < 8 ⌝ }
     ensures { λ _. ⌜ now (cores .exit)
-        ≡ withCore (now (cores .entry)) core (resumed conduit (withFirst (getD (coresAt (now (cores .entry))) core freshCore) (response result (wordsAt (now (values .entry)) 0 18)))) ⌝ }
+        ≡ withCore (now (cores .entry)) core (resumed conduit (withFirst (heldCore (now (cores .entry)) core) (response result (wordsAt (now (values .entry)) 0 18)))) ⌝ }
 {
     words::are_bytes(cores);
     let at = 38 * core as usize;
@@ -133,7 +130,7 @@ fn complete_call(
 ) -> u64
     requires { ⌜ core < 8 ⌝ }
     ensures { λ r.
-        let replied = completeCall conduit (getD (coresAt (now (cores .entry))) core freshCore) (record { kind = kind; values = wordsAt (now (values .entry)) 0 18; error = error }) in
+        let replied = completeCall conduit (heldCore (now (cores .entry)) core) (replyIn kind (now (values .entry)) error) in
         ⌜ (r ≡ repliedOne (now (cores .entry)) core replied .number)
         × (now (cores .exit) ≡ repliedOne (now (cores .entry)) core replied .state) ⌝ }
 {
@@ -159,9 +156,8 @@ pub fn reply(
     error: i32,
 ) -> u64
     ensures { λ r.
-        let replied = replyCore (getD (coresAt (now (cores .entry))) core freshCore) (record { kind = kind; values = wordsAt (now (values .entry)) 0 18; error = error }) in
-        ⌜ (r ≡ cond (ltb 7 core) 10 (repliedOne (now (cores .entry)) core replied .number))
-        × (now (cores .exit) ≡ cond (ltb 7 core) (now (cores .entry)) (repliedOne (now (cores .entry)) core replied .state)) ⌝ }
+        let left = repliedAny (now (cores .entry)) core (replyIn kind (now (values .entry)) error) in
+        ⌜ (r ≡ left .number) × (now (cores .exit) ≡ left .state) ⌝ }
 {
     if LAST_CORE < core {
         return NO_SUCH_CORE;

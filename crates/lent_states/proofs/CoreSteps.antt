@@ -38,7 +38,7 @@ use Rattle.data_abort.proofs.Laws.{abort-all}
 use Rattle.forwarded_call.specs.declared.HvcReply.{HvcReply}
 use Rattle.forwarded_call.specs.declared.ReplyAnswer.the-variants as reply
 use Rattle.forwarded_call.specs.declared.Replied.{Replied}
-use Rattle.forwarded_call.specs.ForwardedCall.{withWait, forwardCall, waits, refused, mayReply, resumed, replied, completeCall, replyTo, replyCore}
+use Rattle.forwarded_call.specs.ForwardedCall.{withWait, forwardCall, waits, refusedReply, mayReply, resumed, replied, completeCall, replyTo, replyCore}
 use Rattle.hypervisor.specs.declared.CoreError.the-variants.{CoreWaiting}
 use Rattle.hypervisor.specs.declared.CoreStep.{CoreStep}
 use Rattle.hypervisor.specs.declared.CoreAnswer.the-variants as core-answer
@@ -160,7 +160,7 @@ replied-core c h r fits f = to (c .wait)
     to : (w : Wait) → InWords (replyTo w c r .core)
     to wait.Nothing = h
     to (wait.Call conduit recipient) =
-        cond-all (λ (s : Replied). InWords (s .core)) (mayReply recipient (r .kind)) (completeCall conduit c r) (refused reply.UnknownReplyKind c)
+        cond-all (λ (s : Replied). InWords (s .core)) (mayReply recipient (r .kind)) (completeCall conduit c r) (refusedReply reply.UnknownReplyKind c)
         (by-kind (resultOfKind (r .kind) (getD (r .values) 0 0) (r .error)) (kind-fits (r .kind) (getD (r .values) 0 0) (r .error) (first-fits (r .values) fits) f) conduit)
         h
 

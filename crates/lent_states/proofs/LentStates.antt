@@ -34,7 +34,7 @@ use Rattle.map_layout.proofs.States.{fresh-map, places-lent}
 use Rattle.ritm.specs.Interface.{unlessRefused, onEight, allowCall, handleCall, steppedCore, saveCall, trapCall, replyCall, writeCall, insertCall, getCall, removeCall}
 use Rattle.order_independence.specs.Calls.{State, freshState, answerNumber, call, callAll}
 use Rattle.order_independence.proofs.Calls.{refusal-keeps}
-use Rattle.lent_states.specs.LentStates.{Buffers, stateIn, Entry, ritm-allow-range, ritm-handle-range, ritm-save, ritm-trap, ritm-reply, ritm-write-gpr, ritm-insert, ritm-get, ritm-remove, left, withPolicy, withCores, withMap, after, afterAll, hostCall, resultWords, Typed, AllTyped, Sized}
+use Rattle.lent_states.specs.LentStates.{Buffers, stateIn, Entry, ritm-allow-range, ritm-handle-range, ritm-save, ritm-trap, ritm-reply, ritm-write-gpr, ritm-insert, ritm-get, ritm-remove, left, withPolicyBytes, withCoreBytes, withMapBytes, afterCall, afterAll, hostCall, resultWords, Typed, AllTyped, Sized}
 use Rattle.lent_states.proofs.Policies.{allow-held, handle-held}
 use Rattle.lent_states.proofs.Maps.{insert-held, remove-held}
 use Rattle.lent_states.proofs.CoreSteps.{saved, replied-core}
@@ -52,15 +52,15 @@ counter-fits b h = word-fits b 304 h
 module _ (b : Buffers) (sized : Sized b) where
   -- the state where one buffer holds something else
   policy-held : (bytes : List ℕ) (policy : Policy) → policyAt bytes ≡ policy
-      → stateIn (withPolicy b bytes) ≡ record { policy = policy; cores = coresAt (b .cores); counter = counterAt (b .cores); map = mapAt (b .map) }
+      → stateIn (withPolicyBytes b bytes) ≡ record { policy = policy; cores = coresAt (b .cores); counter = counterAt (b .cores); map = mapAt (b .map) }
   policy-held bytes policy e = λ i. record { policy = e i; cores = coresAt (b .cores); counter = counterAt (b .cores); map = mapAt (b .map) }
 
   cores-held : (bytes : List ℕ) (cores : List Core) (counter : ℕ) → Holds bytes cores counter
-      → stateIn (withCores b bytes) ≡ record { policy = policyAt (b .policy); cores = cores; counter = counter; map = mapAt (b .map) }
+      → stateIn (withCoreBytes b bytes) ≡ record { policy = policyAt (b .policy); cores = cores; counter = counter; map = mapAt (b .map) }
   cores-held bytes cores counter e = λ i. record { policy = policyAt (b .policy); cores = e .0 i; counter = e .1 i; map = mapAt (b .map) }
 
   map-held : (bytes : List ℕ) (m : SimpleMap) → mapAt bytes ≡ m
-      → stateIn (withMap b bytes) ≡ record { policy = policyAt (b .policy); cores = coresAt (b .cores); counter = counterAt (b .cores); map = m }
+      → stateIn (withMapBytes b bytes) ≡ record { policy = policyAt (b .policy); cores = coresAt (b .cores); counter = counterAt (b .cores); map = m }
   map-held bytes m e = λ i. record { policy = policyAt (b .policy); cores = coresAt (b .cores); counter = counterAt (b .cores); map = e i }
 
   -- a refused call of the host leaves the state as it was
@@ -68,7 +68,7 @@ module _ (b : Buffers) (sized : Sized b) where
   kept e h = refusal-keeps (stateIn b) (hostCall e) h
 
   -- A call leaves in the bytes the state that the host's call hands back, of the state that they held.
-  pub held-state : (e : Entry) → Typed e → stateIn (after b e) ≡ call (stateIn b) (hostCall e) .state
+  pub held-state : (e : Entry) → Typed e → stateIn (afterCall b e) ≡ call (stateIn b) (hostCall e) .state
   unfolding saveCall saveOn replyCall replyOn trapCall getCall
   held-state (ritm-allow-range base size attributes) t =
       policy-held _ _ (allow-held (b .policy) base size attributes (sized .policy) (t .0) (t .1) (t .2))
@@ -179,7 +179,7 @@ unfolding removeCall
 remove-lent b key h = places-lent b (removeItem (mapAt b) key .map .items) h
 
 -- the buffers after a call are as they must be for the next
-pub still-sized : (b : Buffers) → Sized b → (e : Entry) → Sized (after b e)
+pub still-sized : (b : Buffers) → Sized b → (e : Entry) → Sized (afterCall b e)
 unfolding saveCall replyCall getCall
 still-sized b s (ritm-allow-range base size attributes) =
     record { policy = allow-lent (b .policy) base size attributes (s .policy); cores = s .cores; map = s .map }
@@ -200,7 +200,7 @@ still-sized b s (ritm-remove key) = record { policy = s .policy; cores = s .core
 pub held-states : (b : Buffers) → Sized b → (es : List Entry) → AllTyped es → stateIn (afterAll b es) ≡ callAll (stateIn b) (map hostCall es)
 held-states b s [] t = refl
 held-states b s (e ∷ es) t =
-    held-states (after b e) (still-sized b s e) es (t .1) ∙ ap (λ (state : State). callAll state (map hostCall es)) (held-state b s e (t .0))
+    held-states (afterCall b e) (still-sized b s e) es (t .1) ∙ ap (λ (state : State). callAll state (map hostCall es)) (held-state b s e (t .0))
 
 -- zero bytes
 abbrev zeros : Buffers

@@ -38,14 +38,14 @@ region-fits b h k = (word-fits b (129 + 5 * k) h, (word-fits b (129 + 5 * k + 1)
 -- `ritm_allow_range`
 pub allow-held : (b : List ℕ) (base size attributes : ℕ) → Lent 1680 b → FitsWord base → FitsWord size → FitsWord attributes
     → policyAt (allowCall b base size attributes .state) ≡ allowRange (policyAt b) base size attributes .policy
-unfolding allowCall allowRange policyAt policy.withAllowed
+unfolding allowCall allowRange policyAt policy.addAllowed
 allow-held b base size attributes lent f g h = go (allowAnswer p base size attributes) refl
   where
     p : Policy
     p = policyAt b
 
     next : Policy
-    next = policy.withAllowed p (rangeOf base size attributes)
+    next = policy.addAllowed p (rangeOf base size attributes)
 
     go : (answer : Stage2Result) → allowAnswer p base size attributes ≡ answer
         → policyAt (unlessRefused (resultNumber (builtBy answer p next .answer)) b (withAllowed b (builtBy answer p next .policy .allowed) (builtBy answer p next .policy .«allowed_count»)))
@@ -71,7 +71,7 @@ inserted-fits rs n r room all one =
 -- `ritm_handle_range`
 pub handle-held : (b : List ℕ) (base size read write : ℕ) → Lent 1680 b → FitsWord base → FitsWord size
     → policyAt (handleCall b base size read write .state) ≡ handleRange (policyAt b) base size read write .policy
-unfolding handleCall handleRange policyAt policy.withRegion
+unfolding handleCall handleRange policyAt policy.addRegion
 handle-held b base size read write lent f g = go (handleAnswer p base size read write) refl
   where
     p : Policy
@@ -81,7 +81,7 @@ handle-held b base size read write lent f g = go (handleAnswer p base size read 
     region = regionOf base size read write
 
     next : Policy
-    next = policy.withRegion p region
+    next = policy.addRegion p region
 
     go : (answer : Stage2Result) → handleAnswer p base size read write ≡ answer
         → policyAt (unlessRefused (resultNumber (builtBy answer p next .answer)) b (withRegions b (builtBy answer p next .policy .regions) (builtBy answer p next .policy .«region_count»)))

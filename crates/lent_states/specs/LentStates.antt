@@ -5,11 +5,12 @@ use mathlib.Core.List.{List, [], _∷_, map}
 use Rattle.words.specs.Words.{wordAt, wordsAt, FitsWord, Bytes, Lent}
 use Rattle.stage2.specs.Builds.{allow, handle}
 use Rattle.data_abort.specs.declared.TrapRegisters.{TrapRegisters}
+use Rattle.simple_map.specs.Map.{lookupValues}
 use Rattle.hvc_response.specs.Response.{signedWord}
 use Rattle.hypervisor.specs.Answers.{trapKind}
 use Rattle.policy_layout.specs.Layout.{policyAt}
 use Rattle.cores_layout.specs.Layout.{coresAt, counterAt}
-use Rattle.map_layout.specs.Layout.{mapAt, entryWords}
+use Rattle.map_layout.specs.Layout.{mapAt}
 use Rattle.ritm.specs.Interface.{Left, allowCall, handleCall, saveCall, trapCall, replyCall, writeCall, insertCall, getCall, removeCall}
 use Rattle.order_independence.specs.Calls.{State, HostCall, build, core-call, save, trap, reply, write-gpr, by-value, insert, get, remove, Answer, built, stepped, trapped, written, inserted, looked-up}
 
@@ -48,31 +49,31 @@ left b (ritm-get key) = getCall (b .map) key
 left b (ritm-remove key) = removeCall (b .map) key
 
 -- a buffer replaced
-abbrev pub withPolicy : Buffers → List ℕ → Buffers
-withPolicy b bytes = record { policy = bytes; cores = b .cores; map = b .map }
+abbrev pub withPolicyBytes : Buffers → List ℕ → Buffers
+withPolicyBytes b bytes = record { policy = bytes; cores = b .cores; map = b .map }
 
-abbrev pub withCores : Buffers → List ℕ → Buffers
-withCores b bytes = record { policy = b .policy; cores = bytes; map = b .map }
+abbrev pub withCoreBytes : Buffers → List ℕ → Buffers
+withCoreBytes b bytes = record { policy = b .policy; cores = bytes; map = b .map }
 
-abbrev pub withMap : Buffers → List ℕ → Buffers
-withMap b bytes = record { policy = b .policy; cores = b .cores; map = bytes }
+abbrev pub withMapBytes : Buffers → List ℕ → Buffers
+withMapBytes b bytes = record { policy = b .policy; cores = b .cores; map = bytes }
 
 -- the bytes after it: a call is lent one state to change
-abbrev pub after : Buffers → Entry → Buffers
-after b (ritm-allow-range base size attributes) = withPolicy b (left b (ritm-allow-range base size attributes) .state)
-after b (ritm-handle-range base size read write) = withPolicy b (left b (ritm-handle-range base size read write) .state)
-after b (ritm-save core registers) = withCores b (left b (ritm-save core registers) .state)
-after b (ritm-trap core registers) = withCores b (left b (ritm-trap core registers) .state)
-after b (ritm-reply core kind values error) = withCores b (left b (ritm-reply core kind values error) .state)
-after b (ritm-write-gpr core index value) = withCores b (left b (ritm-write-gpr core index value) .state)
-after b (ritm-insert key entry context) = withMap b (left b (ritm-insert key entry context) .state)
-after b (ritm-get key) = withMap b (left b (ritm-get key) .state)
-after b (ritm-remove key) = withMap b (left b (ritm-remove key) .state)
+abbrev pub afterCall : Buffers → Entry → Buffers
+afterCall b (ritm-allow-range base size attributes) = withPolicyBytes b (left b (ritm-allow-range base size attributes) .state)
+afterCall b (ritm-handle-range base size read write) = withPolicyBytes b (left b (ritm-handle-range base size read write) .state)
+afterCall b (ritm-save core registers) = withCoreBytes b (left b (ritm-save core registers) .state)
+afterCall b (ritm-trap core registers) = withCoreBytes b (left b (ritm-trap core registers) .state)
+afterCall b (ritm-reply core kind values error) = withCoreBytes b (left b (ritm-reply core kind values error) .state)
+afterCall b (ritm-write-gpr core index value) = withCoreBytes b (left b (ritm-write-gpr core index value) .state)
+afterCall b (ritm-insert key entry context) = withMapBytes b (left b (ritm-insert key entry context) .state)
+afterCall b (ritm-get key) = withMapBytes b (left b (ritm-get key) .state)
+afterCall b (ritm-remove key) = withMapBytes b (left b (ritm-remove key) .state)
 
 -- the bytes after a list of calls
 abbrev pub afterAll : Buffers → List Entry → Buffers
 afterAll b [] = b
-afterAll b (e ∷ es) = afterAll (after b e) es
+afterAll b (e ∷ es) = afterAll (afterCall b e) es
 
 -- the host's call that it is, on states: `order_independence` has its meaning
 abbrev pub hostCall : Entry → HostCall
@@ -93,7 +94,7 @@ resultWords (stepped answer) = []
 resultWords (trapped answer values) = trapKind answer ∷ values
 resultWords (written answer) = []
 resultWords (inserted answer) = []
-resultWords (looked-up answer) = entryWords answer
+resultWords (looked-up answer) = lookupValues answer
 
 -- what C's types say of the arguments: numbers fit 64 bits, bytes are bytes; and `write_gpr` is "on a record of the eight"
 abbrev pub Typed : Entry → Type 0

@@ -3,13 +3,12 @@
 ghost use mathlib.Core.Path.{_≡_};
 ghost use mathlib.Core.List.{_∷_};
 ghost use Prim.Native.Nat.{_<_};
-ghost use lib.ListN.{getD};
 ghost use Rattle.words.specs.Words.{bytesOf};
 ghost use Rattle.policy_layout.specs.Layout.{policyAt};
-ghost use Rattle.cores_layout.specs.Layout.{coresAt, counterAt};
+ghost use Rattle.cores_layout.specs.Layout.{heldCore, counterAt};
 ghost use Rattle.stage2.specs.Policy.{regionsHeld};
-ghost use Rattle.exceptions.specs.Registers.{freshCore};
-ghost use Rattle.data_abort.specs.DataAbort.{tryMemoryAccess, injectDataAbort, handleDataAbort};
+ghost use Rattle.data_abort.specs.DataAbort.{injectDataAbort, handleDataAbort};
+ghost use Rattle.data_abort.specs.Outcome.{tryMemoryAccess};
 ghost use Rattle.forwarded_call.specs.ForwardedCall.{forwardCall};
 ghost use Rattle.hypervisor.specs.Answers.{trapNumber, trapKind, noValues, forwarded};
 ghost use Rattle.hypervisor.specs.Trap.{exceptionClass, byClass};
@@ -45,7 +44,7 @@ fn forward_call(
 ) -> u64
     requires { ⌜ core < 8 ⌝ }
     ensures { λ r.
-        let step = forwarded (forwardCall (getD (coresAt (now (cores .entry))) core freshCore) conduit) (counterAt (now (cores .entry))) in
+        let step = forwarded (forwardCall (heldCore (now (cores .entry)) core) conduit) (counterAt (now (cores .entry))) in
         ⌜ (r ≡ trappedOne (now (cores .entry)) core step .number)
         × (now (cores .exit) ≡ trappedOne (now (cores .entry)) core step .state)
         × (now (result .exit) ≡ trappedOne (now (cores .entry)) core step .result) ⌝ }
@@ -68,7 +67,7 @@ fn try_memory_access_handler(
     core: u64,
     trap: TrapRegisters,
 ) -> Emulated
-    ensures { λ r. ⌜ r ≡ tryMemoryAccess (regionsHeld (policyAt (now (policy .entry)))) (getD (coresAt (now (cores .entry))) core freshCore) (counterAt (now (cores .entry))) trap ⌝ }
+    ensures { λ r. ⌜ r ≡ tryMemoryAccess (regionsHeld (policyAt (now (policy .entry)))) (heldCore (now (cores .entry)) core) (counterAt (now (cores .entry))) trap ⌝ }
 {
     let counter = cores_layout::get_counter(cores);
     match data_abort::decode_abort(trap) {
@@ -94,7 +93,7 @@ fn inject_data_abort(
 ) -> u64
     requires { ⌜ core < 8 ⌝ }
     ensures { λ r.
-        let step = abortStep (injectDataAbort (getD (coresAt (now (cores .entry))) core freshCore) (counterAt (now (cores .entry))) trap) in
+        let step = abortStep (injectDataAbort (heldCore (now (cores .entry)) core) (counterAt (now (cores .entry))) trap) in
         ⌜ (r ≡ trappedOne (now (cores .entry)) core step .number)
         × (now (cores .exit) ≡ trappedOne (now (cores .entry)) core step .state)
         × (now (result .exit) ≡ trappedOne (now (cores .entry)) core step .result) ⌝ }
@@ -122,7 +121,7 @@ fn handle_data_abort(
 ) -> u64
     requires { ⌜ core < 8 ⌝ }
     ensures { λ r.
-        let step = abortStep (handleDataAbort (regionsHeld (policyAt (now (policy .entry)))) (getD (coresAt (now (cores .entry))) core freshCore) (counterAt (now (cores .entry))) trap) in
+        let step = abortStep (handleDataAbort (regionsHeld (policyAt (now (policy .entry)))) (heldCore (now (cores .entry)) core) (counterAt (now (cores .entry))) trap) in
         ⌜ (r ≡ trappedOne (now (cores .entry)) core step .number)
         × (now (cores .exit) ≡ trappedOne (now (cores .entry)) core step .state)
         × (now (result .exit) ≡ trappedOne (now (cores .entry)) core step .result) ⌝ }
@@ -154,7 +153,7 @@ fn dispatch(
 ) -> u64
     requires { ⌜ core < 8 ⌝ }
     ensures { λ r.
-        let step = byClass (exceptionClass (trap .esr)) (regionsHeld (policyAt (now (policy .entry)))) (getD (coresAt (now (cores .entry))) core freshCore) (counterAt (now (cores .entry))) trap in
+        let step = byClass (exceptionClass (trap .esr)) (regionsHeld (policyAt (now (policy .entry)))) (heldCore (now (cores .entry)) core) (counterAt (now (cores .entry))) trap in
         ⌜ (r ≡ trappedOne (now (cores .entry)) core step .number)
         × (now (cores .exit) ≡ trappedOne (now (cores .entry)) core step .state)
         × (now (result .exit) ≡ trappedOne (now (cores .entry)) core step .result) ⌝ }

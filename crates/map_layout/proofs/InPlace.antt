@@ -19,7 +19,7 @@ use Rattle.simple_map.specs.declared.Place.{Place}
 use Rattle.simple_map.specs.declared.SuspendCoreData.{SuspendCoreData}
 use Rattle.simple_map.specs.declared.Lookup.the-variants.{Nothing, Value}
 use Rattle.simple_map.specs.declared.Insertion.the-variants.{Accepted, CapacityExceeded}
-use Rattle.simple_map.specs.Map.{freePlace, taken, fits, isFree, holdsKey, valueOf, without, getItem, insertItem}
+use Rattle.simple_map.specs.Map.{freePlace, taken, isFree, holdsKey, valueOf, without, getItem, insertItem}
 use Rattle.simple_map.proofs.Laws.{get-at, without-at, insert-at}
 use Rattle.map_layout.specs.Layout.{placeAt, placeWords, withPlace, mapAt, withPlaces}
 use Rattle.map_layout.proofs.Records.{place-beside}
@@ -124,7 +124,7 @@ fits-there b fits k e l =
 module _ (b : List ℕ) (key held : ℕ) (at-key : held ≡ firstIndex (holdsKey key) (mapAt b .items)) where
   -- a look-up reads there
   pub entry-at : getItem (mapAt b) key ≡ cond (ltb held 8) (Value (valueAt b held)) Nothing
-  unfolding placeAt fits valueOf
+  unfolding placeAt isFree holdsKey valueOf
   entry-at = get-at (mapAt b) key ∙ rw (eight b, ← at-key) (go (ltb held 8) refl)
     where
       value : (t : Bool) → holdsKey key (standing b held t) ≡ true → valueOf (standing b held t) ≡ Value (valueAt b held)
@@ -151,7 +151,7 @@ module _ (b : List ℕ) (key held : ℕ) (at-key : held ≡ firstIndex (holdsKey
         ≡ cond (ltb (min held free) 8)
         (record { answer = Accepted; map = record { items = set (set (mapAt b .items) held freePlace) (min held free) (taken key value) } })
         (record { answer = CapacityExceeded; map = mapAt b })
-    unfolding fits
+    unfolding isFree holdsKey
     inserted =
         insert-at (mapAt b) key value
         ∙ rw (eight b, without-at key (mapAt b .items), index-set isFree freePlace refl (mapAt b .items) (firstIndex (holdsKey key) (mapAt b .items)), ← at-key, ← at-free)
@@ -175,7 +175,7 @@ module _ (b : List ℕ) (key held : ℕ) (at-key : held ≡ firstIndex (holdsKey
 
     -- what holds the key is not free
     apart : held < 8 → held ≡ free → ⊥
-    unfolding placeAt fits
+    unfolding placeAt isFree holdsKey
     apart l e =
         go (eqb (wordAt b (4 * held)) 1) (fits-there b (holdsKey key) held at-key l) (fits-there b isFree held (e ∙ at-free) l)
       where

@@ -8,9 +8,7 @@ use Rattle.simple_map.specs.declared.OptionItem.{OptionItem}
 use Rattle.simple_map.specs.declared.OptionItem.the-variants.{None, Some}
 use Rattle.simple_map.specs.declared.Place.{Place}
 use Rattle.simple_map.specs.declared.SimpleMap.{SimpleMap}
-use Rattle.simple_map.specs.declared.Lookup.{Lookup}
-use Rattle.simple_map.specs.declared.Lookup.the-variants as lookup
-use Rattle.simple_map.specs.Map.{freePlace, taken, lookupValues}
+use Rattle.simple_map.specs.Map.{freePlace, taken}
 
 -- A place of the suspend map is 4 words: 1 where it is taken, key, entry point, context id. The eight stand from word 0 on.
 unfoldable pub placeAt : List ℕ → ℕ → Place
@@ -33,8 +31,3 @@ mapAt map = record { items = each (placeAt map) 0 8 }
 
 unfoldable pub withPlaces : List ℕ → List Place → List ℕ
 withPlaces map items = storeEach withPlace map 0 items
-
--- whether there is an entry, its entry point and its context id
-abbrev pub entryWords : Lookup → List ℕ
-entryWords lookup.Nothing = 0 ∷ lookupValues lookup.Nothing
-entryWords (lookup.Value v) = 1 ∷ lookupValues (lookup.Value v)

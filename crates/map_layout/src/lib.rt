@@ -3,11 +3,11 @@
 ghost use mathlib.Core.Path.{_≡_};
 ghost use mathlib.Core.Bool.{cond};
 ghost use Prim.Native.Nat.{_+_, _*_, _<_};
-ghost use lib.Dec.{eqb, ltb};
+ghost use lib.Dec.{ltb};
 ghost use Rattle.lists.specs.Lists.{firstIndex};
-ghost use Rattle.words.specs.Words.{wordAt, bytesOf};
-ghost use Rattle.simple_map.specs.Map.{freePlace, isFree, holdsKey, getItem, insertItem, insertNumber, removeItem};
-ghost use Rattle.map_layout.specs.Layout.{placeAt, mapAt, withPlace, withPlaces, entryWords};
+ghost use Rattle.words.specs.Words.{wordAt, bytesOf, unlessRefused};
+ghost use Rattle.simple_map.specs.Map.{freePlace, isFree, holdsKey, getItem, insertItem, insertNumber, removeItem, lookupValues};
+ghost use Rattle.map_layout.specs.Layout.{placeAt, mapAt, withPlace, withPlaces};
 use simple_map::Insertion;
 use simple_map::Item;
 use simple_map::Lookup;
@@ -131,7 +131,7 @@ pub fn remove_entry(map: &mut [u8; MAP_SIZE], key: u64) -> Lookup
 // Holds an entry under the key. Once the key's first entry is removed its place is free too: the new one goes to the lower of the two places.
 pub fn insert_entry(map: &mut [u8; MAP_SIZE], key: u64, value: SuspendCoreData) -> Insertion
     ensures { λ r. ⌜ (r ≡ insertItem (mapAt (now (map .entry))) key value .answer)
-        × (now (map .exit) ≡ cond (eqb (insertNumber r) 0) (withPlaces (now (map .entry)) (insertItem (mapAt (now (map .entry))) key value .map .items)) (now (map .entry))) ⌝ }
+        × (now (map .exit) ≡ unlessRefused (insertNumber r) (now (map .entry)) (withPlaces (now (map .entry)) (insertItem (mapAt (now (map .entry))) key value .map .items))) ⌝ }
 {
     words::are_bytes(map);
     let old = find_key(map, key);
@@ -153,7 +153,7 @@ pub fn insert_entry(map: &mut [u8; MAP_SIZE], key: u64, value: SuspendCoreData) 
 
 // A look-up's answer: whether there is an entry, its entry point and its context id.
 pub fn put_lookup(result: &mut [u8; THREE_WORDS], lookup: Lookup)
-    ensures { λ _. ⌜ now (result .exit) ≡ bytesOf (entryWords lookup) ⌝ }
+    ensures { λ _. ⌜ now (result .exit) ≡ bytesOf (lookupValues lookup) ⌝ }
 {
     match lookup {
         Lookup::Nothing => words::put_three(result, 0, 0, 0),

@@ -17,7 +17,7 @@ use Rattle.stage2_range.specs.declared.MemoryAccessRegion.{MemoryAccessRegion}
 use Rattle.stage2_range.specs.Ranges.{ValidRange, sharesByte, resultNumber}
 use Rattle.stage2_range.proofs.Ranges.{shares-sym, apart-bases}
 use Rattle.stage2.specs.declared.Policy.{Policy}
-use Rattle.stage2.specs.Policy.{isHandler, rangeOf, regionOf, allowedHeld, regionsHeld, withAllowed, withRegion}
+use Rattle.stage2.specs.Policy.{isHandler, rangeOf, regionOf, allowedHeld, regionsHeld, addAllowed, addRegion}
 use Rattle.stage2.specs.Builds.{BuilderCall, allow, handle, build, buildAll, Apart, CanAllow, CanHandle, WellFormed}
 use Rattle.order_independence.specs.Builds.{accepts, accepted, AllAccepted, SamePolicy}
 use Rattle.stage2.proofs.Laws.{error-not-zero, build-refused, allow-accepted, can-allow, handle-accepted, can-handle}
@@ -115,7 +115,7 @@ module _ (p : Policy) (w : WellFormed p) where
 
   -- a call that fits is accepted, and its record is held
   fits-accepted : (c : BuilderCall) → Fits (view p) c → (build p c .answer ≡ Accepted) × (view (build p c .policy) ≡ put (view p) c)
-  unfolding withAllowed withRegion
+  unfolding addAllowed addRegion
   fits-accepted (allow base size attributes) f =
       let r : Stage2Range = rangeOf base size attributes in
       let room : p .«allowed_count» < 32 = omega (arith, f .room, allowed-length) in

@@ -8,15 +8,14 @@ use Rattle.lists.specs.Lists.{held}
 use Rattle.memory_access.specs.Syndrome.{bitsAt, bitAt, faultIpa, decodeAccess}
 use Rattle.memory_access.specs.Transfer.{lowBits, signExtend, loaded, atRegisterWidth, extendReadResult}
 use Rattle.stage2_range.specs.Ranges.{validateRange, sharesByte, overlapsAllowed}
-use Rattle.stage2_range.specs.Registry as registry
 use Rattle.stage2_range.specs.Registry.{overlapsRegions, findRegion, insertRegion, registerAnswer}
-use Rattle.stage2.specs.Policy.{freshPolicy, handleAnswerFor, withRegion, handleRange}
+use Rattle.stage2.specs.Policy.{freshPolicy, handleAnswerFor, addRegion, handleRange}
 use Rattle.simple_map.specs.declared.SuspendCoreData.{SuspendCoreData}
-use Rattle.simple_map.specs.Map.{fits, valueOf, emptyMap, without, getItem, hasRoom, removeItem, insertItem}
+use Rattle.simple_map.specs.Map.{isFree, holdsKey, valueOf, emptyMap, without, getItem, hasRoom, removeItem, insertItem}
 use Rattle.exceptions.specs.Registers.{freshCore, withRegisters, advancePc, writeGpr}
-use Rattle.qemu.specs.FilteredMmio.{wordAt, loadsCounter, counterAfter, readFilteredMmio}
+use Rattle.qemu.specs.FilteredMmio.{pageWord, loadsCounter, counterAfter, readFilteredMmio}
 use Rattle.data_abort.specs.declared.TrapRegisters.{TrapRegisters}
-use Rattle.data_abort.specs.DataAbort.{readThrough, accessIn, tryMemoryAccess, withEc, injected, injectDataAbort, handleDataAbort}
+use Rattle.data_abort.specs.DataAbort.{injectionDue, withEc, injected, injectDataAbort, handleDataAbort}
 use Rattle.forwarded_call.specs.ForwardedCall.{recipientOf, withWait, forwardCall}
 use Rattle.hypervisor.specs.Answers.{answered}
 use Rattle.hypervisor.specs.Trap.{exceptionClass, byClass, handleSyncLower}
@@ -81,8 +80,8 @@ pub computed : (afterSteps page first .cores ≡ afterSteps page second .cores)
     × (said 2 first ≡ said 2 second)
 unfolding
     held bitsAt bitAt faultIpa decodeAccess lowBits signExtend loaded atRegisterWidth extendReadResult validateRange sharesByte
-    overlapsAllowed registry.fits overlapsRegions findRegion insertRegion registerAnswer freshPolicy handleAnswerFor withRegion handleRange
-    fits valueOf emptyMap without getItem hasRoom removeItem insertItem freshState freshCore withRegisters advancePc writeGpr wordAt
-    loadsCounter counterAfter readFilteredMmio readThrough accessIn tryMemoryAccess withEc injected injectDataAbort handleDataAbort
+    overlapsAllowed overlapsRegions findRegion insertRegion registerAnswer freshPolicy handleAnswerFor addRegion handleRange
+    isFree holdsKey valueOf emptyMap without getItem hasRoom removeItem insertItem freshState freshCore withRegisters advancePc writeGpr pageWord
+    loadsCounter counterAfter readFilteredMmio injectionDue withEc injected injectDataAbort handleDataAbort
     recipientOf withWait forwardCall answered exceptionClass byClass handleSyncLower noCore freshCores saveCore onCore saveOn trapOn
 computed = (refl, refl, refl, refl, refl, refl, refl)

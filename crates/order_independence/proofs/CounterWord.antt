@@ -29,7 +29,7 @@ use Rattle.hypervisor.specs.declared.CoreError.the-variants.{CoreWaiting}
 use Rattle.hypervisor.specs.declared.TrapAnswer.the-variants.{AccessHandled}
 use Rattle.hypervisor.specs.declared.TrapStep.{TrapStep}
 use Rattle.hypervisor.specs.declared.Trapped.{Trapped}
-use Rattle.hypervisor.specs.Answers.{trapNumber, noValues, answered, refused}
+use Rattle.hypervisor.specs.Answers.{trapNumber, noValues, answered, refusedTrap}
 use Rattle.hypervisor.specs.Trap.{ec, classOf, exceptionClass, byClass, handleSyncLower}
 use Rattle.hypervisor.specs.Cores.{noCore, trapOn, trapCases}
 use Rattle.order_independence.specs.CounterWord.{LoadsCounterWord}
@@ -74,7 +74,7 @@ module _ (regions : List MemoryAccessRegion) (core : Core) (trap : TrapRegisters
   step-steady none = go (waits (core .wait)) refl
     where
       go : (b : Bool) → waits (core .wait) ≡ b
-          → Steady (λ counter. cond b (refused CoreWaiting core counter) (byClass (classOf (ec (trap .esr))) regions core counter trap))
+          → Steady (λ counter. cond b (refusedTrap CoreWaiting core counter) (byClass (classOf (ec (trap .esr))) regions core counter trap))
       go true e = λ counter counter′. refl
       go false e = class-steady (ec (trap .esr)) (λ class access. none (record { idle = e; class = class; access = access }))
 

@@ -8,17 +8,16 @@ use Rattle.lists.specs.Lists.{held}
 use Rattle.memory_access.specs.Syndrome.{bitsAt, bitAt, faultIpa, decodeAccess}
 use Rattle.memory_access.specs.Transfer.{lowBits, signExtend, loaded, atRegisterWidth, extendReadResult}
 use Rattle.stage2_range.specs.Ranges.{validateRange, sharesByte, overlapsAllowed}
-use Rattle.stage2_range.specs.Registry as registry
 use Rattle.stage2_range.specs.Registry.{overlapsRegions, findRegion, insertRegion, registerAnswer}
-use Rattle.stage2.specs.Policy.{freshPolicy, allowAnswerFor, withAllowed, allowRange, handleAnswerFor, withRegion, handleRange}
+use Rattle.stage2.specs.Policy.{freshPolicy, allowAnswerFor, addAllowed, allowRange, handleAnswerFor, addRegion, handleRange}
 use Rattle.stage2.specs.Builds.{handle}
 use Rattle.simple_map.specs.declared.SuspendCoreData.{SuspendCoreData}
 use Rattle.simple_map.specs.declared.Insertion.the-variants.{Accepted, CapacityExceeded}
-use Rattle.simple_map.specs.Map.{fits, valueOf, emptyMap, without, getItem, hasRoom, insertItem, lookupValues}
+use Rattle.simple_map.specs.Map.{isFree, holdsKey, valueOf, emptyMap, without, getItem, hasRoom, insertItem, lookupValues}
 use Rattle.exceptions.specs.Registers.{freshCore, withRegisters, advancePc, writeGpr}
-use Rattle.qemu.specs.FilteredMmio.{wordAt, loadsCounter, counterAfter, readFilteredMmio}
+use Rattle.qemu.specs.FilteredMmio.{pageWord, loadsCounter, counterAfter, readFilteredMmio}
 use Rattle.data_abort.specs.declared.TrapRegisters.{TrapRegisters}
-use Rattle.data_abort.specs.DataAbort.{readThrough, accessIn, tryMemoryAccess, handleDataAbort}
+use Rattle.data_abort.specs.DataAbort.{injectionDue, handleDataAbort}
 use Rattle.hypervisor.specs.Answers.{answered}
 use Rattle.hypervisor.specs.Trap.{exceptionClass, byClass, handleSyncLower}
 use Rattle.hypervisor.specs.Cores.{noCore, freshCores, trapOn}
@@ -38,9 +37,9 @@ pub two-loaders : (key : ℕ → ℕ)
     → Same key (afterSteps page (trap 0 load ∷ trap 1 load ∷ [])) (afterSteps page (trap 1 load ∷ trap 0 load ∷ [])) → ⊥
 unfolding
     held bitsAt bitAt faultIpa decodeAccess lowBits signExtend loaded atRegisterWidth extendReadResult validateRange sharesByte
-    overlapsAllowed registry.fits overlapsRegions findRegion insertRegion registerAnswer freshPolicy allowAnswerFor withAllowed allowRange
-    handleAnswerFor withRegion handleRange freshState freshCore withRegisters advancePc writeGpr wordAt loadsCounter counterAfter
-    readFilteredMmio readThrough accessIn tryMemoryAccess handleDataAbort answered exceptionClass byClass handleSyncLower freshCores trapOn
+    overlapsAllowed overlapsRegions findRegion insertRegion registerAnswer freshPolicy allowAnswerFor addAllowed allowRange
+    handleAnswerFor addRegion handleRange freshState freshCore withRegisters advancePc writeGpr pageWord loadsCounter counterAfter
+    readFilteredMmio injectionDue handleDataAbort answered exceptionClass byClass handleSyncLower freshCores trapOn
 two-loaders key same =
     let e : _≡_ {A = ℕ} 0 1 = ap (λ cores. getD (getD cores 0 noCore .x) 5 9) (same .all-cores) in
     omega arith
@@ -58,8 +57,8 @@ own-steps-swapped key same =
 pub one-key : (first second : SuspendCoreData) → (first .«entry_point» ≡ second .«entry_point» → ⊥)
     → getItem (afterSteps freshState (insert 7 first ∷ insert 7 second ∷ []) .map) 7
     ≡ getItem (afterSteps freshState (insert 7 second ∷ insert 7 first ∷ []) .map) 7 → ⊥
-unfolding freshState emptyMap fits valueOf without getItem hasRoom insertItem
-one-key first second differ same = differ (ap (λ l. getD (lookupValues l) 0 0) (sym same))
+unfolding freshState emptyMap isFree holdsKey valueOf without getItem hasRoom insertItem
+one-key first second differ same = differ (ap (λ l. getD (lookupValues l) 1 0) (sym same))
 
 -- A key that is no core's: the ninth of nine keys is refused, whichever it is.
 abbrev pub inserts : List ℕ → List CoreCall
@@ -71,5 +70,5 @@ key-8 steps = answersTo (isOwn (λ i. i) 8) freshState steps
 
 pub ninth-key : (key-8 (inserts (0 ∷ 1 ∷ 2 ∷ 3 ∷ 4 ∷ 5 ∷ 6 ∷ 7 ∷ 8 ∷ [])) ≡ inserted CapacityExceeded ∷ [])
     × (key-8 (inserts (8 ∷ 0 ∷ 1 ∷ 2 ∷ 3 ∷ 4 ∷ 5 ∷ 6 ∷ 7 ∷ [])) ≡ inserted Accepted ∷ [])
-unfolding freshState emptyMap fits valueOf without getItem hasRoom insertItem
+unfolding freshState emptyMap isFree holdsKey valueOf without getItem hasRoom insertItem
 ninth-key = (refl, refl)

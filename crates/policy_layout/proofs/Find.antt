@@ -14,7 +14,7 @@ use Rattle.stage2_range.specs.declared.Stage2Range.{Stage2Range}
 use Rattle.stage2_range.specs.declared.MemoryAccessRegion.{MemoryAccessRegion}
 use Rattle.stage2_range.specs.declared.RegionFound.the-variants.{Nothing, Match}
 use Rattle.stage2_range.specs.Ranges.{sharesByte}
-use Rattle.stage2_range.specs.Registry.{hasAddress, fits, findRegion, insertRegion}
+use Rattle.stage2_range.specs.Registry.{hasAddress, findRegion, insertRegion}
 use Rattle.stage2_range.proofs.Registry.{found-base, find-here, find-nothing, insert-region}
 use Rattle.stage2.specs.Policy.{regionsHeld}
 use Rattle.words.specs.Words.{wordAt, each}
@@ -57,7 +57,7 @@ module _ (policy : List ℕ) where
       let regions = each (regionAt policy) 0 16 in
       let n = wordAt policy 209 in
       insertRegion regions n r ≡ insertAt regions n (firstIndex (λ s. leb (r .«base_ipa») (s .«base_ipa»)) (regionsHeld (policyAt policy))) r
-  unfolding policyAt fits
+  unfolding policyAt
   inserted-there r h =
       insert-region (each (regionAt policy) 0 16) (wordAt policy 209) r (omega arith) (omega (arith, length-each (regionAt policy) 0 16))
 
@@ -68,18 +68,18 @@ module _ (policy : List ℕ) (ipa : Ipa) (k : ℕ) (e : k ≡ firstIndex (hasAdd
 
   -- the region found has the address
   pub base-below : k < min (wordAt policy 209) 16 → regionAt policy k .«base_ipa» ≤ ipa .0
-  unfolding policyAt fits
+  unfolding policyAt
   base-below h =
       rw (region-of policy k (regionAt policy 0) (omega arith)) at (found-base (each (regionAt policy) 0 16) (wordAt policy 209) full ipa (regionAt policy 0) k e h)
 
   -- it is what the search answers
   pub region-here : k < min (wordAt policy 209) 16
       → Match (record { region = regionAt policy k; offset = ipa .0 - regionAt policy k .«base_ipa» }) ≡ findRegion (regionsHeld (policyAt policy)) ipa
-  unfolding policyAt fits
+  unfolding policyAt
   region-here h =
       rw (region-of policy k (regionAt policy 0) (omega arith)) at (find-here (each (regionAt policy) 0 16) (wordAt policy 209) full ipa (regionAt policy 0) k e h)
 
   -- past those held there is none
   pub region-nothing : min (wordAt policy 209) 16 ≤ k → Nothing ≡ findRegion (regionsHeld (policyAt policy)) ipa
-  unfolding policyAt fits
+  unfolding policyAt
   region-nothing h = find-nothing (each (regionAt policy) 0 16) (wordAt policy 209) full ipa (omega (arith, e))

@@ -1,6 +1,8 @@
 -- Where the words of a policy stand in the bytes that a host lends. Any bytes are a policy. Assumes nothing.
 use Prim.Native.Nat.{ℕ, _+_, _*_}
+use mathlib.Core.Bool.{cond}
 use mathlib.Core.List.{List, [], _∷_}
+use lib.Dec.{ltb}
 use Rattle.words.specs.Words.{wordAt, withWord, each, storeEach, withWords, keptCode}
 use Rattle.stage2_range.specs.declared.Stage2Range.{Stage2Range}
 use Rattle.stage2_range.specs.declared.MemoryAccessRegion.{MemoryAccessRegion}
@@ -45,6 +47,10 @@ withRegion policy k r =
     ∷ keptCode 2 (wordAt policy (at + 4)) (handlerNumber (r .handler .write))
     ∷ [])
 
+-- the base of the region at a place, and 0 where there is no such place
+abbrev pub regionBase : List ℕ → ℕ → ℕ
+regionBase policy k = cond (ltb k 16) (regionAt policy k .«base_ipa») 0
+
 -- the policy that 210 words hold
 unfoldable pub policyAt : List ℕ → Policy
 policyAt policy = record {
@@ -61,3 +67,10 @@ withAllowed policy allowed count = withWord (storeEach withRange policy 0 allowe
 -- the bytes with these regions, the allowed ranges as they were
 unfoldable pub withRegions : List ℕ → List MemoryAccessRegion → ℕ → List ℕ
 withRegions policy regions count = withWord (storeEach withRegion policy 0 regions) 209 count
+
+-- the bytes with another policy's allowed ranges, or with its regions
+abbrev pub withAllowedOf : List ℕ → Policy → List ℕ
+withAllowedOf bytes p = withAllowed bytes (p .allowed) (p .«allowed_count»)
+
+abbrev pub withRegionsOf : List ℕ → Policy → List ℕ
+withRegionsOf bytes p = withRegions bytes (p .regions) (p .«region_count»)

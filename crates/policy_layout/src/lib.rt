@@ -1,15 +1,14 @@
 // Where the bytes that a host lends hold the policy: little-endian 64-bit words at fixed places. Any bytes are a policy.
 ghost use mathlib.Core.Path.{_≡_};
 ghost use Prim.Native.Nat.{_+_, _^_, _≤_, _<_};
-ghost use mathlib.Core.Bool.{cond};
-ghost use lib.Dec.{eqb, leb, ltb};
+ghost use lib.Dec.{leb};
 ghost use lib.ListN.{set};
 ghost use Rattle.lists.specs.Lists.{firstIndex, insertAt};
-ghost use Rattle.words.specs.Words.{wordAt, each, storeEach};
+ghost use Rattle.words.specs.Words.{wordAt, each, storeEach, unlessRefused};
 ghost use Rattle.stage2_range.specs.Ranges.{resultNumber, sharesByte, overlapsAllowed};
 ghost use Rattle.stage2_range.specs.Registry.{handlerNumber, hasAddress, overlapsRegions, findRegion, insertRegion};
 ghost use Rattle.stage2.specs.Policy.{isHandler, allowedHeld, regionsHeld, regionOf, allowAnswerFor, allowRange, handleAnswerFor, handleRange};
-ghost use Rattle.policy_layout.specs.Layout.{rangeAt, regionAt, policyAt, withRange, withRegion, withAllowed, withRegions};
+ghost use Rattle.policy_layout.specs.Layout.{rangeAt, regionAt, regionBase, policyAt, withRange, withRegion, withAllowed, withRegions, withAllowedOf, withRegionsOf};
 use memory_access::Ipa;
 use stage2_range::MAX_ALLOWED_RANGES;
 use stage2_range::MAX_MEMORY_ACCESS_HANDLERS;
@@ -126,7 +125,7 @@ pub fn find_place(policy: &[u8; POLICY_SIZE], ipa: u64) -> u64
 
 // The base of a region.
 pub fn get_region_base(policy: &[u8; POLICY_SIZE], place: u64) -> u64
-    ensures { λ r. ⌜ r ≡ cond (ltb place 16) (regionAt (now (policy .entry)) place .«base_ipa») 0 ⌝ }
+    ensures { λ r. ⌜ r ≡ regionBase (now (policy .entry)) place ⌝ }
 {
     if 16 <= place {
         return 0;
@@ -228,7 +227,7 @@ pub fn allow_range(
     attributes: u64,
 ) -> Stage2Result
     ensures { λ r. ⌜ (r ≡ allowRange (policyAt (now (policy .entry))) «base_ipa» size attributes .answer)
-        × (now (policy .exit) ≡ cond (eqb (resultNumber r) 0) (withAllowed (now (policy .entry)) (allowRange (policyAt (now (policy .entry))) «base_ipa» size attributes .policy .allowed) (allowRange (policyAt (now (policy .entry))) «base_ipa» size attributes .policy .«allowed_count»)) (now (policy .entry))) ⌝ }
+        × (now (policy .exit) ≡ unlessRefused (resultNumber r) (now (policy .entry)) (withAllowedOf (now (policy .entry)) (allowRange (policyAt (now (policy .entry))) «base_ipa» size attributes .policy))) ⌝ }
 {
     match stage2_range::validate_range(base_ipa, size) {
         Stage2Result::Refused(error) => Stage2Result::Refused(error),
@@ -341,7 +340,7 @@ pub fn handle_range(
     write: u64,
 ) -> Stage2Result
     ensures { λ r. ⌜ (r ≡ handleRange (policyAt (now (policy .entry))) «base_ipa» size read write .answer)
-        × (now (policy .exit) ≡ cond (eqb (resultNumber r) 0) (withRegions (now (policy .entry)) (handleRange (policyAt (now (policy .entry))) «base_ipa» size read write .policy .regions) (handleRange (policyAt (now (policy .entry))) «base_ipa» size read write .policy .«region_count»)) (now (policy .entry))) ⌝ }
+        × (now (policy .exit) ≡ unlessRefused (resultNumber r) (now (policy .entry)) (withRegionsOf (now (policy .entry)) (handleRange (policyAt (now (policy .entry))) «base_ipa» size read write .policy))) ⌝ }
 {
     if !is_handler(read) {
         return Stage2Result::Refused(Stage2ConfigError::UnknownMemoryHandler);

@@ -6,10 +6,10 @@ use borrow.Author.Tests.{eqb-true}
 use lib.Dec.{eqb}
 use Rattle.stage2_range.specs.declared.MemoryReadAccess.{MemoryReadAccess}
 use Rattle.stage2_range.specs.declared.MemoryReadResult.the-variants.{Value, Fault}
-use Rattle.qemu.specs.FilteredMmio.{is64, wordAt, loadsCounter, counterAfter, readFilteredMmio}
+use Rattle.qemu.specs.FilteredMmio.{is64, pageWord, loadsCounter, counterAfter, readFilteredMmio}
 
-counter-word : (offset counter : ℕ) (is64 : Bool) → (is64 && eqb offset 16) ≡ true → cond is64 (wordAt offset counter) Fault ≡ Value counter
-unfolding wordAt
+counter-word : (offset counter : ℕ) (is64 : Bool) → (is64 && eqb offset 16) ≡ true → cond is64 (pageWord offset counter) Fault ≡ Value counter
+unfolding pageWord
 counter-word offset counter true e = rw (eqb-true offset 16 e)
 counter-word offset counter false e = absurd (true≢false (sym e))
 
@@ -20,8 +20,8 @@ unfolding readFilteredMmio loadsCounter counterAfter
 counter-loaded access counter e = rw (counter-word (access .offset) counter (is64 (access .width)) e, e)
 
 other-word : (offset counter counter′ : ℕ) (is64 : Bool) → (is64 && eqb offset 16) ≡ false
-    → cond is64 (wordAt offset counter) Fault ≡ cond is64 (wordAt offset counter′) Fault
-unfolding wordAt
+    → cond is64 (pageWord offset counter) Fault ≡ cond is64 (pageWord offset counter′) Fault
+unfolding pageWord
 other-word offset counter counter′ true e = rw e
 other-word offset counter counter′ false e = refl
 

@@ -15,16 +15,16 @@ use Rattle.stage2_range.specs.declared.MemoryWriteResult.the-variants as write
 use Rattle.qemu.specs.declared.FilteredRead.{FilteredRead}
 
 -- an entry of the page: a word at an offset
-pub record Entry : Type 0 where
+pub record PageEntry : Type 0 where
   pub offset : ℕ
   pub word : ℕ
 
 -- this word stands at this offset
-abbrev pub at : ℕ → ℕ → Entry
+abbrev pub at : ℕ → ℕ → PageEntry
 at offset word = record { offset = offset; word = word }
 
 -- what loads find, at this counter: "16 the counter before it grows"
-abbrev pub loads : ℕ → List Entry
+abbrev pub loads : ℕ → List PageEntry
 loads counter =
     at 0 0xFEEDFACECAFEBEEF
     ∷ at 16 counter
@@ -34,7 +34,7 @@ loads counter =
     ∷ []
 
 -- what stores are taken: "A store succeeds only at 8 with 0x123456789ABCDEF0"
-abbrev pub stores : List Entry
+abbrev pub stores : List PageEntry
 stores = at 8 0x123456789ABCDEF0 ∷ []
 
 -- "Only 64-bit accesses succeed"
@@ -42,8 +42,8 @@ abbrev pub is64 : MemoryAccessWidth → Bool
 is64 width = eqb (bitsOf width) 64
 
 -- the word at an offset, or a fault
-unfoldable pub wordAt : ℕ → ℕ → MemoryReadResult
-wordAt offset counter = firstOf (λ e. eqb offset (e .offset)) (λ e. read.Value (e .word)) read.Fault (loads counter)
+unfoldable pub pageWord : ℕ → ℕ → MemoryReadResult
+pageWord offset counter = firstOf (λ e. eqb offset (e .offset)) (λ e. read.Value (e .word)) read.Fault (loads counter)
 
 -- the load is of the counter word
 unfoldable pub loadsCounter : MemoryReadAccess → Bool
@@ -57,7 +57,7 @@ counterAfter loaded counter = cond loaded ((counter + 1) % 2 ^ 64) counter
 unfoldable pub readFilteredMmio : MemoryReadAccess → ℕ → FilteredRead
 readFilteredMmio access counter =
     record {
-      result = cond (is64 (access .width)) (wordAt (access .offset) counter) read.Fault;
+      result = cond (is64 (access .width)) (pageWord (access .offset) counter) read.Fault;
       counter = counterAfter (loadsCounter access) counter;
     }
 

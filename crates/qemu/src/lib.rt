@@ -1,7 +1,7 @@
 // RITM's src/platform/qemu.rs, of which the filtered MMIO page (document 01: the filtered page) is carried over.
 ghost use mathlib.Core.Path.{_≡_};
 ghost use lib.Dec.{eqb};
-ghost use Rattle.qemu.specs.FilteredMmio.{wordAt, counterAfter, readFilteredMmio, writeFilteredMmio};
+ghost use Rattle.qemu.specs.FilteredMmio.{pageWord, counterAfter, readFilteredMmio, writeFilteredMmio};
 use memory_access::MemoryAccessWidth;
 use stage2_range::MemoryReadAccess;
 use stage2_range::MemoryReadResult;
@@ -35,7 +35,7 @@ pub fn read_filtered_mmio(access: MemoryReadAccess, counter: u64) -> FilteredRea
 }
 
 fn word_at(offset: u64, counter: u64) -> MemoryReadResult
-    ensures { λ r. ⌜ r ≡ wordAt offset counter ⌝ }
+    ensures { λ r. ⌜ r ≡ pageWord offset counter ⌝ }
 {
     match offset {
         0 => MemoryReadResult::Value(0xFEED_FACE_CAFE_BEEF),

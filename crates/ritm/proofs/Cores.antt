@@ -22,7 +22,7 @@ use Rattle.words.specs.Words.{wordAt, wordsAt, Bytes}
 use Rattle.cores_layout.specs.Layout.{coresAt, withCore}
 use Rattle.lent_core.proofs.InPlace.{gpr-kept}
 use Rattle.lent_trap.proofs.Laws.{same-core, replaced}
-use Rattle.lent_reply.specs.LentReply.{repliedOne}
+use Rattle.lent_reply.specs.LentReply.{replyIn, repliedOne, repliedAny}
 use Rattle.ritm.specs.Interface.{Left, unlessRefused, steppedCore, saveCall, replyCall, writeCall}
 
 -- what a step of one core leaves
@@ -58,27 +58,26 @@ reply-number reply.UnknownReplyKind = refl
 -- a reply to one of the eight, and to a core of any number
 pub reply-one : (cores : List ℕ) (i kind : ℕ) (values : List ℕ) (error : ℤ) → i ≤ 7
     → replyCall cores i kind values error
-    ≡ repliedOne cores i (replyCore (getD (coresAt cores) i freshCore) (record { kind = kind; values = wordsAt values 0 18; error = error }))
+    ≡ repliedOne cores i (replyCore (getD (coresAt cores) i freshCore) (replyIn kind values error))
 unfolding replyCall replyOn
 reply-one cores i kind values error h =
-    let r = replyCore (getD (coresAt cores) i freshCore) (record { kind = kind; values = wordsAt values 0 18; error = error }) in
-    step-one cores i (λ one. replyStep (replyCore one (record { kind = kind; values = wordsAt values 0 18; error = error }))) h
+    let r = replyCore (getD (coresAt cores) i freshCore) (replyIn kind values error) in
+    step-one cores i (λ one. replyStep (replyCore one (replyIn kind values error))) h
     ∙ ap (λ (n : ℕ). stepLeft cores i n (r .core)) (sym (reply-number (r .answer)))
   where
     stepLeft : List ℕ → ℕ → ℕ → Core → Left
     stepLeft cores i n core = record { number = n; state = unlessRefused n cores (withCore cores i core); result = [] }
 
 pub reply-any : (cores : List ℕ) (i kind : ℕ) (values : List ℕ) (error : ℤ)
-    → let left = repliedOne cores i (replyCore (getD (coresAt cores) i freshCore) (record { kind = kind; values = wordsAt values 0 18; error = error })) in
-    replyCall cores i kind values error ≡ record { number = cond (ltb 7 i) 10 (left .number); state = cond (ltb 7 i) cores (left .state); result = [] }
+    → replyCall cores i kind values error ≡ repliedAny cores i (replyIn kind values error)
 unfolding replyCall replyOn
 reply-any cores i kind values error = go (ltb 7 i) refl
   where
     left : Left
-    left = repliedOne cores i (replyCore (getD (coresAt cores) i freshCore) (record { kind = kind; values = wordsAt values 0 18; error = error }))
+    left = repliedOne cores i (replyCore (getD (coresAt cores) i freshCore) (replyIn kind values error))
 
     go : (t : Bool) → ltb 7 i ≡ t → replyCall cores i kind values error ≡ record { number = cond t 10 (left .number); state = cond t cores (left .state); result = [] }
-    go true e = step-none cores i (λ one. replyStep (replyCore one (record { kind = kind; values = wordsAt values 0 18; error = error }))) (omega (arith, ltb-true 7 i e))
+    go true e = step-none cores i (λ one. replyStep (replyCore one (replyIn kind values error))) (omega (arith, ltb-true 7 i e))
     go false e = reply-one cores i kind values error (omega (arith, ltb-false 7 i e))
 
 -- A save, by what the code reads and calls: the core, and the step.

@@ -3,19 +3,18 @@ use Prim.Native.Nat.{ℕ, _-_, _≤_, _<_, min}
 use mathlib.Core.Path.{_≡_, sym, ap}
 use mathlib.Core.List.{List, [], _∷_}
 use Rattle.lists.specs.Lists.{firstIndex}
-use Rattle.stage2_range.specs.Registry.{hasAddress, findRegion}
+use Rattle.stage2_range.specs.Registry.{hasAddress, findRegion, foundValues}
 use Rattle.stage2.specs.Policy.{regionsHeld}
 use Rattle.words.specs.Words.{wordAt}
 use Rattle.policy_layout.specs.Layout.{regionAt, policyAt}
 use Rattle.policy_layout.proofs.Find.{region-here, region-nothing}
-use Rattle.ritm.specs.Interface.{foundWords}
 
 module _ (policy : List ℕ) (ipa k : ℕ) (e : k ≡ firstIndex (hasAddress ipa) (regionsHeld (policyAt policy))) where
   -- the place of a region that is held, and the offset in it
   pub found-here : k < min (wordAt policy 209) 16
-      → foundWords k (findRegion (regionsHeld (policyAt policy)) (record { 0 = ipa })) ≡ 1 ∷ k ∷ (ipa - regionAt policy k .«base_ipa») ∷ []
-  found-here h = ap (foundWords k) (sym (region-here policy (record { 0 = ipa }) k e h))
+      → foundValues k (findRegion (regionsHeld (policyAt policy)) (record { 0 = ipa })) ≡ 1 ∷ k ∷ (ipa - regionAt policy k .«base_ipa») ∷ []
+  found-here h = ap (foundValues k) (sym (region-here policy (record { 0 = ipa }) k e h))
 
   -- past those held there is none
-  pub found-nothing : min (wordAt policy 209) 16 ≤ k → foundWords k (findRegion (regionsHeld (policyAt policy)) (record { 0 = ipa })) ≡ 0 ∷ 0 ∷ 0 ∷ []
-  found-nothing h = ap (foundWords k) (sym (region-nothing policy (record { 0 = ipa }) k e h))
+  pub found-nothing : min (wordAt policy 209) 16 ≤ k → foundValues k (findRegion (regionsHeld (policyAt policy)) (record { 0 = ipa })) ≡ 0 ∷ 0 ∷ 0 ∷ []
+  found-nothing h = ap (foundValues k) (sym (region-nothing policy (record { 0 = ipa }) k e h))

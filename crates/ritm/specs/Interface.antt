@@ -11,22 +11,26 @@ use Rattle.memory_access.specs.declared.Decoded.{Decoded}
 use Rattle.memory_access.specs.declared.Decoded.the-variants.{Access, NoSyndrome}
 use Rattle.memory_access.specs.Syndrome.{decodeAccess, numberOf, valuesOf}
 use Rattle.memory_access.specs.Transfer.{extendReadResult}
-use Rattle.stage2_range.specs.declared.RegionFound.{RegionFound}
-use Rattle.stage2_range.specs.declared.RegionFound.the-variants as region
 use Rattle.stage2_range.specs.Ranges.{resultNumber, alignDown, alignUp, alignedNumber, alignedValue}
-use Rattle.stage2_range.specs.Registry.{hasAddress, findRegion}
+use Rattle.stage2_range.specs.Registry.{hasAddress, findRegion, foundValues}
 use Rattle.stage2.specs.Policy.{regionsHeld, allowRange, handleRange}
-use Rattle.simple_map.specs.Map.{getItem, insertItem, insertNumber, removeItem}
+use Rattle.simple_map.specs.Map.{getItem, insertItem, insertNumber, removeItem, lookupValues}
 use Rattle.exceptions.specs.Registers.{readGpr, readNumber, readValue, writeGpr, writeNumber}
+use Rattle.data_abort.specs.declared.TrapRegisters.{TrapRegisters}
 use Rattle.hypervisor.specs.declared.CoresStep.{CoresStep}
 use Rattle.hypervisor.specs.Answers.{coreNumber}
 use Rattle.hypervisor.specs.Cores.{noCore, saveOn, replyOn}
 use Rattle.words.specs.Words.{wordAt, wordsAt, bytesOf}
 pub use Rattle.words.specs.Words.{Left, unlessRefused}
 unfoldable pub use Rattle.lent_trap.specs.LentTrap.{trapCall}
-use Rattle.policy_layout.specs.Layout.{policyAt, withAllowed, withRegions}
+use Rattle.lent_reply.specs.LentReply.{replyIn}
+use Rattle.policy_layout.specs.Layout.{policyAt, withAllowedOf, withRegionsOf}
 use Rattle.cores_layout.specs.Layout.{coresAt, withCore}
-use Rattle.map_layout.specs.Layout.{mapAt, withPlaces, entryWords}
+use Rattle.map_layout.specs.Layout.{mapAt, withPlaces}
+
+-- the four numbers of `ritm_trap`
+abbrev pub trapRegisters : ℕ → ℕ → ℕ → ℕ → TrapRegisters
+trapRegisters esr fipa far vbar = record { esr = esr; fipa = record { 0 = fipa }; far = far; vbar = vbar }
 
 -- `ritm_allow_range`: the allowed ranges are written, and no byte of the regions
 unfoldable pub allowCall : List ℕ → ℕ → ℕ → ℕ → Left
@@ -35,7 +39,7 @@ allowCall policy base size attributes =
     let number = resultNumber (built .answer) in
     record {
       number = number;
-      state = unlessRefused number policy (withAllowed policy (built .policy .allowed) (built .policy .«allowed_count»));
+      state = unlessRefused number policy (withAllowedOf policy (built .policy));
       result = [];
     }
 
@@ -46,14 +50,9 @@ handleCall policy base size read write =
     let number = resultNumber (built .answer) in
     record {
       number = number;
-      state = unlessRefused number policy (withRegions policy (built .policy .regions) (built .policy .«region_count»));
+      state = unlessRefused number policy (withRegionsOf policy (built .policy));
       result = [];
     }
-
--- whether a region is found, its place among those held, and the offset in it
-abbrev pub foundWords : ℕ → RegionFound → List ℕ
-foundWords place region.Nothing = 0 ∷ 0 ∷ 0 ∷ []
-foundWords place (region.Match m) = 1 ∷ place ∷ m .offset ∷ []
 
 -- `ritm_find`
 unfoldable pub findCall : List ℕ → ℕ → Left
@@ -62,7 +61,7 @@ findCall policy ipa =
     record {
       number = 0;
       state = policy;
-      result = bytesOf (foundWords (firstIndex (hasAddress ipa) regions) (findRegion regions (record { 0 = ipa })));
+      result = bytesOf (foundValues (firstIndex (hasAddress ipa) regions) (findRegion regions (record { 0 = ipa })));
     }
 
 -- a step of one core: its words are written, and no byte of another core
@@ -79,7 +78,7 @@ saveCall cores i registers =
 -- `ritm_reply`
 unfoldable pub replyCall : List ℕ → ℕ → ℕ → List ℕ → ℤ → Left
 replyCall cores i kind values error =
-    steppedCore cores i (replyOn (coresAt cores) i (record { kind = kind; values = wordsAt values 0 18; error = error }))
+    steppedCore cores i (replyOn (coresAt cores) i (replyIn kind values error))
 
 -- 10 "number above 7", else the number of a call on one of the eight
 abbrev pub onEight : ℕ → ℕ → ℕ
@@ -111,13 +110,13 @@ insertCall map key entry context =
 
 -- `ritm_get`
 unfoldable pub getCall : List ℕ → ℕ → Left
-getCall map key = record { number = 0; state = map; result = bytesOf (entryWords (getItem (mapAt map) key)) }
+getCall map key = record { number = 0; state = map; result = bytesOf (lookupValues (getItem (mapAt map) key)) }
 
 -- `ritm_remove`
 unfoldable pub removeCall : List ℕ → ℕ → Left
 removeCall map key =
     let removed = removeItem (mapAt map) key in
-    record { number = 0; state = withPlaces map (removed .map .items); result = bytesOf (entryWords (removed .removed)) }
+    record { number = 0; state = withPlaces map (removed .map .items); result = bytesOf (lookupValues (removed .removed)) }
 
 -- `ritm_decode`: IPA, bits, WnR, Rt, SSE, SF
 unfoldable pub decodeCall : ℕ → ℕ → ℕ → Left

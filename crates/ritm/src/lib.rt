@@ -8,7 +8,7 @@ ghost use Rattle.cores_layout.specs.Layout.{coresAt, counterAt};
 ghost use Rattle.map_layout.specs.Layout.{mapAt};
 ghost use Rattle.simple_map.specs.Map.{emptyMap};
 ghost use Rattle.stage2.specs.Policy.{freshPolicy};
-ghost use Rattle.ritm.specs.Interface.{allowCall, handleCall, findCall, saveCall, replyCall, trapCall, readCall, writeCall, insertCall, getCall, removeCall, decodeCall, extendCall, alignDownCall, alignUpCall, bufferSize};
+ghost use Rattle.ritm.specs.Interface.{allowCall, handleCall, findCall, saveCall, replyCall, trapRegisters, trapCall, readCall, writeCall, insertCall, getCall, removeCall, decodeCall, extendCall, alignDownCall, alignUpCall, bufferSize};
 use cores_layout::CORES_SIZE;
 use cores_layout::REGISTERS_SIZE;
 use cores_layout::TRAP_RESULT_SIZE;
@@ -146,9 +146,9 @@ pub extern "C" fn ritm_trap(
     vbar: u64,
     result: &mut [u8; TRAP_RESULT_SIZE],
 ) -> u64
-    ensures { λ r. ⌜ (r ≡ trapCall (now (policy .entry)) (now (cores .entry)) core (record { esr = esr; fipa = record { 0 = fipa }; far = far; vbar = vbar }) .number)
-        × (now (cores .exit) ≡ trapCall (now (policy .entry)) (now (cores .entry)) core (record { esr = esr; fipa = record { 0 = fipa }; far = far; vbar = vbar }) .state)
-        × (now (result .exit) ≡ trapCall (now (policy .entry)) (now (cores .entry)) core (record { esr = esr; fipa = record { 0 = fipa }; far = far; vbar = vbar }) .result) ⌝ }
+    ensures { λ r. ⌜ (r ≡ trapCall (now (policy .entry)) (now (cores .entry)) core (trapRegisters esr fipa far vbar) .number)
+        × (now (cores .exit) ≡ trapCall (now (policy .entry)) (now (cores .entry)) core (trapRegisters esr fipa far vbar) .state)
+        × (now (result .exit) ≡ trapCall (now (policy .entry)) (now (cores .entry)) core (trapRegisters esr fipa far vbar) .result) ⌝ }
 {
     let fipa = Fipa(fipa);
     let trap = TrapRegisters {

@@ -12,42 +12,41 @@ use Rattle.lists.proofs.Laws.{cond-all}
 use Rattle.lists.proofs.Counts.{any-count, count-none, replace-count, replace-passed, replace-found, sum-le-but, sum-change}
 use Rattle.simple_map.specs.declared.OptionItem.{OptionItem}
 use Rattle.simple_map.specs.declared.OptionItem.the-variants.{None, Some}
-use Rattle.simple_map.specs.declared.Sought.the-variants.{Free, Key}
 use Rattle.simple_map.specs.declared.Place.{Place}
 use Rattle.simple_map.specs.declared.SimpleMap.{SimpleMap}
 use Rattle.simple_map.specs.declared.SuspendCoreData.{SuspendCoreData}
 use Rattle.simple_map.specs.declared.Lookup.the-variants.{Nothing, Value}
 use Rattle.simple_map.specs.declared.Insertion.the-variants.{Accepted}
 use Rattle.simple_map.specs.declared.Inserted.{Inserted}
-use Rattle.simple_map.specs.Map.{itemFits, fits, isFree, holdsKey, freePlace, taken, valueOf, emptyMap, without, getItem, removeItem, hasRoom, insertItem}
+use Rattle.simple_map.specs.Map.{isNone, hasKey, isFree, holdsKey, freePlace, taken, valueOf, emptyMap, without, getItem, removeItem, hasRoom, insertItem}
 use Rattle.simple_map.specs.Keys.{KeysDiffer, HoldsKeys}
 use Rattle.simple_map.proofs.Laws.{room-any}
 
 -- what holds a key is not free
-key-not-free : (k : ℕ) (item : OptionItem) → itemFits (Key k) item ≡ true → itemFits Free item ≡ false
+key-not-free : (k : ℕ) (item : OptionItem) → hasKey k item ≡ true → isNone item ≡ false
 key-not-free k None e = sym e
 key-not-free k (Some i) e = refl
 
 -- what is free holds no key
-free-no-key : (k : ℕ) (item : OptionItem) → itemFits Free item ≡ true → itemFits (Key k) item ≡ false
+free-no-key : (k : ℕ) (item : OptionItem) → isNone item ≡ true → hasKey k item ≡ false
 free-no-key k None e = refl
 free-no-key k (Some i) e = absurd (true≢false (sym e))
 
 -- what holds a key holds no other
-one-key : (k j : ℕ) → (k ≡ j → ⊥) → (item : OptionItem) → itemFits (Key k) item ≡ true → itemFits (Key j) item ≡ false
+one-key : (k j : ℕ) → (k ≡ j → ⊥) → (item : OptionItem) → hasKey k item ≡ true → hasKey j item ≡ false
 one-key k j differ None e = refl
 one-key k j differ (Some i) e = ne-eqb (i .key) j (λ q. differ (sym (eqb-true (i .key) k e) ∙ q))
 
 -- to remove an entry leaves what is found under another key
 pub get-removed-other : (map : SimpleMap) (k j : ℕ) → (k ≡ j → ⊥) → getItem (removeItem map k .map) j ≡ getItem map j
-unfolding removeItem without getItem fits
+unfolding removeItem without getItem isFree holdsKey
 get-removed-other map k j differ =
     replace-passed (holdsKey k) (holdsKey j) freePlace valueOf Nothing (λ p. one-key k j differ (p .item)) refl (map .items)
 
 -- so does an insert, accepted or not
 pub get-inserted-other : (map : SimpleMap) (k j : ℕ) (value : SuspendCoreData) → (k ≡ j → ⊥)
     → getItem (insertItem map k value .map) j ≡ getItem map j
-unfolding insertItem removeItem getItem fits
+unfolding insertItem removeItem getItem isFree holdsKey
 get-inserted-other map k j value differ =
     let passed = replace-passed isFree (holdsKey j) (taken k value) valueOf Nothing (λ p. free-no-key j (p .item)) (ne-eqb k j differ) in
     cond-all (λ (r : Inserted). getItem (r .map) j ≡ getItem map j) (hasRoom map k) _ _
@@ -61,12 +60,12 @@ record Moved (k : ℕ) (before after : List Place) : Type 0 where
 module _ (k : ℕ) (l : List Place) where
   -- to remove an entry leaves one place less with the key, where there is one
   removed-own : countOf (holdsKey k) (without k l) + min 1 (countOf (holdsKey k) l) ≡ countOf (holdsKey k) l
-  unfolding without fits
+  unfolding without isFree holdsKey
   removed-own = omega (arith, replace-count (holdsKey k) (holdsKey k) freePlace true false (λ p e. e) refl l)
 
   -- to remove an entry makes a place with the key free, and no other
   removed-moved : Moved k l (without k l)
-  unfolding without fits
+  unfolding without isFree holdsKey
   removed-moved = record {
     total = omega (arith, removed-own, replace-count (holdsKey k) isFree freePlace false true (λ p. key-not-free k (p .item)) refl l);
     others = λ j differ.
@@ -80,13 +79,13 @@ module _ (k : ℕ) (l : List Place) where
 
     -- to store an entry leaves one place more with the key, where one was free
     filled-own : countOf (holdsKey k) filled ≡ countOf (holdsKey k) l + min 1 (countOf isFree l)
-    unfolding fits
+    unfolding isFree holdsKey
     filled-own =
         omega (arith, replace-count isFree (holdsKey k) (taken k value) false true (λ p. free-no-key k (p .item)) (eq-eqb k k refl) l)
 
     -- to store an entry takes a free place, and no other
     filled-moved : Moved k l filled
-    unfolding fits
+    unfolding isFree holdsKey
     filled-moved = record {
       total = omega (arith, filled-own, replace-count isFree isFree (taken k value) true false (λ p e. e) refl l);
       others = λ j differ.
@@ -95,7 +94,7 @@ module _ (k : ℕ) (l : List Place) where
 
 -- a new map holds no key
 pub empty-holds : (key : ℕ → ℕ) → HoldsKeys key emptyMap
-unfolding emptyMap fits
+unfolding emptyMap isFree holdsKey
 empty-holds key = record { places = refl; once = λ c w. omega arith }
 
 module _ (key : ℕ → ℕ) (differ : KeysDiffer key) where
@@ -161,7 +160,7 @@ module _ (key : ℕ → ℕ) (differ : KeysDiffer key) where
 
       -- the core finds what it inserted
       pub get-inserted : getItem (insertItem map (key c) value .map) (key c) ≡ Value value
-      unfolding insertItem getItem valueOf fits
+      unfolding insertItem getItem valueOf isFree holdsKey
       get-inserted =
           let own = eq-eqb (key c) (key c) refl in
           rw room (replace-found isFree (holdsKey (key c)) (taken (key c) value) valueOf Nothing own rest rest-free rest-own)

@@ -10,13 +10,12 @@ use Rattle.lists.specs.Lists.{anyOf, firstIndex}
 use Rattle.lists.proofs.Laws.{first-at, first-none, none-first, any-at, replace-at, replace-any, length-replace}
 use Rattle.simple_map.specs.declared.OptionItem.{OptionItem}
 use Rattle.simple_map.specs.declared.OptionItem.the-variants.{None, Some}
-use Rattle.simple_map.specs.declared.Sought.the-variants.{Key}
 use Rattle.simple_map.specs.declared.Place.{Place}
 use Rattle.simple_map.specs.declared.SimpleMap.{SimpleMap}
 use Rattle.simple_map.specs.declared.Lookup.the-variants.{Nothing}
 use Rattle.simple_map.specs.declared.Insertion.the-variants.{Accepted, CapacityExceeded}
 use Rattle.simple_map.specs.declared.SuspendCoreData.{SuspendCoreData}
-use Rattle.simple_map.specs.Map.{itemFits, itemValue, fits, isFree, taken, holdsKey, freePlace, without, hasRoom, valueOf, getItem, insertItem, insertNumber}
+use Rattle.simple_map.specs.Map.{hasKey, itemValue, isFree, taken, holdsKey, freePlace, without, hasRoom, valueOf, getItem, insertItem, insertNumber}
 
 -- the first item with the key, by its place
 pub get-at : (map : SimpleMap) (key : ℕ)
@@ -31,14 +30,14 @@ pub without-at : (key : ℕ) (items : List Place) → without key items ≡ set 
 unfolding without
 without-at key items = replace-at (holdsKey key) freePlace items
 
-item-differs : (key : ℕ) (item : OptionItem) → itemFits (Key key) item ≡ true → itemValue item ≡ Nothing → ⊥
+item-differs : (key : ℕ) (item : OptionItem) → hasKey key item ≡ true → itemValue item ≡ Nothing → ⊥
 item-differs key None t e = true≢false (sym t)
 item-differs key (Some i) t e = let z : _≡_ {A = ℕ} 0 1 = cc in omega arith
 
 -- look-up answers none exactly where no place holds the key
 pub get-none : (map : SimpleMap) (key : ℕ) → getItem map key ≡ Nothing → (place : Place) → List·Memᴰ place (map .items)
     → holdsKey key place ≡ false
-unfolding getItem fits valueOf
+unfolding getItem isFree holdsKey valueOf
 get-none map key e = first-none (holdsKey key) valueOf Nothing (λ place. item-differs key (place .item)) (map .items) e
 
 pub none-get : (map : SimpleMap) (key : ℕ) → ((place : Place) → List·Memᴰ place (map .items) → holdsKey key place ≡ false)
@@ -48,7 +47,7 @@ none-get map key h = none-first (holdsKey key) valueOf Nothing (map .items) h
 
 -- there is room where a place is free once the first item with the key is removed
 pub room-any : (map : SimpleMap) (key : ℕ) → hasRoom map key ≡ anyOf isFree (without key (map .items))
-unfolding hasRoom without fits
+unfolding hasRoom without isFree holdsKey
 room-any map key = sym (replace-any (holdsKey key) isFree freePlace refl (map .items))
 
 module _ (map : SimpleMap) (key : ℕ) (value : SuspendCoreData) where

@@ -10,8 +10,6 @@ use Rattle.simple_map.specs.declared.SuspendCoreData.{SuspendCoreData}
 use Rattle.simple_map.specs.declared.OptionItem.{OptionItem}
 use Rattle.simple_map.specs.declared.OptionItem.the-variants.{None, Some}
 use Rattle.simple_map.specs.declared.Place.{Place}
-use Rattle.simple_map.specs.declared.Sought.{Sought}
-use Rattle.simple_map.specs.declared.Sought.the-variants.{Free, Key}
 use Rattle.simple_map.specs.declared.SimpleMap.{SimpleMap}
 use Rattle.simple_map.specs.declared.Lookup.{Lookup}
 use Rattle.simple_map.specs.declared.Lookup.the-variants.{Nothing, Value}
@@ -28,24 +26,23 @@ freePlace = record { item = None }
 abbrev pub taken : ℕ → SuspendCoreData → Place
 taken key value = record { item = Some (record { key = key; value = value }) }
 
--- an item is what a search looks for: no item at all, or one with the key
-abbrev pub itemFits : Sought → OptionItem → Bool
-itemFits Free None = true
-itemFits Free (Some i) = false
-itemFits (Key key) None = false
-itemFits (Key key) (Some i) = eqb (i .key) key
+-- there is no item
+abbrev pub isNone : OptionItem → Bool
+isNone None = true
+isNone (Some i) = false
 
--- a place holds what a search looks for
-unfoldable pub fits : Sought → Place → Bool
-fits sought place = itemFits sought (place .item)
+-- an item has the key
+abbrev pub hasKey : ℕ → OptionItem → Bool
+hasKey key None = false
+hasKey key (Some i) = eqb (i .key) key
 
 -- a place is free
-abbrev pub isFree : Place → Bool
-isFree = fits Free
+unfoldable pub isFree : Place → Bool
+isFree place = isNone (place .item)
 
 -- a place holds an item with the key
-abbrev pub holdsKey : ℕ → Place → Bool
-holdsKey key = fits (Key key)
+unfoldable pub holdsKey : ℕ → Place → Bool
+holdsKey key place = hasKey key (place .item)
 
 -- the value of an item, or none
 abbrev pub itemValue : OptionItem → Lookup
@@ -88,7 +85,7 @@ abbrev pub insertNumber : Insertion → ℕ
 insertNumber Accepted = 0
 insertNumber CapacityExceeded = 16
 
--- the result fields of a look-up: entry point, context id; zeros where nothing is found
+-- the result fields of a look-up: 1 where an entry is found, its entry point and its context id; zeros where none is
 abbrev pub lookupValues : Lookup → List ℕ
-lookupValues Nothing = 0 ∷ 0 ∷ []
-lookupValues (Value v) = v .«entry_point» ∷ v .«context_id» ∷ []
+lookupValues Nothing = 0 ∷ 0 ∷ 0 ∷ []
+lookupValues (Value v) = 1 ∷ v .«entry_point» ∷ v .«context_id» ∷ []

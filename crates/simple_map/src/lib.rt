@@ -5,7 +5,8 @@ ghost use mathlib.Core.Bool.{cond};
 ghost use lib.Dec.{ltb};
 ghost use lib.ListN.{getD, set};
 ghost use Rattle.lists.specs.Lists.{firstIndex};
-ghost use Rattle.simple_map.specs.Map.{freePlace, fits, valueOf, without, emptyMap, getItem, insertItem, insertNumber, removeItem};
+ghost use Rattle.simple_map.specs.Map.{freePlace, valueOf, without, emptyMap, getItem, insertItem, insertNumber, removeItem};
+ghost use Rattle.simple_map.specs.Search.{placeFits};
 
 // Where a suspended core resumes, and with what.
 pub struct SuspendCoreData {
@@ -141,7 +142,7 @@ enum Sought {
 }
 
 fn place_fits(place: Place, sought: Sought) -> bool
-    ensures { λ r. ⌜ r ≡ fits sought place ⌝ }
+    ensures { λ r. ⌜ r ≡ placeFits sought place ⌝ }
 {
     let item = place.item;
     match item {
@@ -171,7 +172,7 @@ fn value_of(place: Place) -> Lookup
 
 // The first place that fits, and 8 where none does.
 fn position(items: [Place; 8], sought: Sought) -> usize
-    ensures { λ r. ⌜ r ≡ firstIndex (fits sought) items ⌝ }
+    ensures { λ r. ⌜ r ≡ firstIndex (placeFits sought) items ⌝ }
 {
     let mut i: usize = 0;
     while i < 8 {

@@ -18,7 +18,7 @@ use Rattle.stage2_range.specs.Registry.{overlapsRegions, registerAnswer}
 use Rattle.stage2_range.proofs.Ranges.{validate-number, accepted-valid, valid-accepted, not-refused, allowed-apart, apart-allowed}
 use Rattle.stage2_range.proofs.Registry.{regions-apart, apart-regions}
 use Rattle.stage2.specs.declared.Policy.{Policy}
-use Rattle.stage2.specs.Policy.{isHandler, allowedHeld, regionsHeld, rangeOf, regionOf, after, builtBy, allowAnswerFor, handleAnswerFor, withAllowed, withRegion, allowRange, handleRange, allowCases, handleCases, allowAnswer, handleAnswer}
+use Rattle.stage2.specs.Policy.{isHandler, allowedHeld, regionsHeld, rangeOf, regionOf, after, builtBy, allowAnswerFor, handleAnswerFor, addAllowed, addRegion, allowRange, handleRange, allowCases, handleCases, allowAnswer, handleAnswer}
 use Rattle.stage2.specs.Builds.{BuilderCall, allow, handle, build, CanAllow, CanHandle}
 
 -- no refusal has the number 0
@@ -49,11 +49,11 @@ built-answer (Refused e) p q = refl
 
 allow-answer : (p : Policy) (base size attributes : ℕ) → allowRange p base size attributes .answer ≡ allowAnswer p base size attributes
 unfolding allowRange
-allow-answer p base size attributes = built-answer (allowAnswer p base size attributes) p (withAllowed p (rangeOf base size attributes))
+allow-answer p base size attributes = built-answer (allowAnswer p base size attributes) p (addAllowed p (rangeOf base size attributes))
 
 handle-answer : (p : Policy) (base size read write : ℕ) → handleRange p base size read write .answer ≡ handleAnswer p base size read write
 unfolding handleRange
-handle-answer p base size read write = built-answer (handleAnswer p base size read write) p (withRegion p (regionOf base size read write))
+handle-answer p base size read write = built-answer (handleAnswer p base size read write) p (addRegion p (regionOf base size read write))
 
 -- "allow 1 to 7 in order", first met wins
 pub allow-number : (p : Policy) (base size attributes : ℕ)
@@ -96,9 +96,9 @@ built-refused (Refused e) p q h = refl
 pub build-refused : (p : Policy) (c : BuilderCall) → (resultNumber (build p c .answer) ≡ 0 → ⊥) → build p c .policy ≡ p
 unfolding allowRange handleRange
 build-refused p (allow base size attributes) h =
-    built-refused (allowAnswer p base size attributes) p (withAllowed p (rangeOf base size attributes)) h
+    built-refused (allowAnswer p base size attributes) p (addAllowed p (rangeOf base size attributes)) h
 build-refused p (handle base size read write) h =
-    built-refused (handleAnswer p base size read write) p (withRegion p (regionOf base size read write)) h
+    built-refused (handleAnswer p base size read write) p (addRegion p (regionOf base size read write)) h
 
 -- where neither of two answers is a refusal, each accepts
 not-after : (first rest : Stage2Result) → after first rest ≡ Accepted → (first ≡ Accepted) × (rest ≡ Accepted)
@@ -124,7 +124,7 @@ module _ (p : Policy) (base size attributes : ℕ) where
       }
 
   pub can-allow : CanAllow p base size
-      → allowRange p base size attributes ≡ record { answer = Accepted; policy = withAllowed p (rangeOf base size attributes) }
+      → allowRange p base size attributes ≡ record { answer = Accepted; policy = addAllowed p (rangeOf base size attributes) }
   unfolding allowRange allowAnswerFor
   can-allow c =
       rw (
@@ -155,7 +155,7 @@ module _ (p : Policy) (base size read write : ℕ) where
       }
 
   pub can-handle : CanHandle p base size read write
-      → handleRange p base size read write ≡ record { answer = Accepted; policy = withRegion p (regionOf base size read write) }
+      → handleRange p base size read write ≡ record { answer = Accepted; policy = addRegion p (regionOf base size read write) }
   unfolding handleRange handleAnswerFor registerAnswer
   can-handle c =
       rw (

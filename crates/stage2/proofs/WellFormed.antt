@@ -23,7 +23,7 @@ use Rattle.stage2_range.specs.Registry.{findRegion, insertRegion}
 use Rattle.stage2_range.proofs.Ranges.{shares-sym, byte-common}
 use Rattle.stage2_range.proofs.Registry.{insert-by-base, has-address, find-none, find-held}
 use Rattle.stage2.specs.declared.Policy.{Policy}
-use Rattle.stage2.specs.Policy.{allowedHeld, regionsHeld, rangeOf, regionOf, freshPolicy, withAllowed, withRegion}
+use Rattle.stage2.specs.Policy.{allowedHeld, regionsHeld, rangeOf, regionOf, freshPolicy, addAllowed, addRegion}
 use Rattle.stage2.specs.Builds.{BuilderCall, allow, handle, build, buildAll, CanAllow, CanHandle, AllApart, WellFormed}
 use Rattle.stage2.proofs.Laws.{error-not-zero, build-refused, allow-accepted, can-allow, handle-accepted, can-handle}
 
@@ -61,8 +61,8 @@ module _ {A : Type 0} (base end : A → ℕ) where
 
 -- a range that is allowed stands after those held
 pub allowed-held : (p : Policy) (r : Stage2Range) → length (p .allowed) ≡ 32 → p .«allowed_count» < 32
-    → allowedHeld (withAllowed p r) ≡ insertBefore (λ x. false) r (allowedHeld p)
-unfolding withAllowed
+    → allowedHeld (addAllowed p r) ≡ insertBefore (λ x. false) r (allowedHeld p)
+unfolding addAllowed
 allowed-held p r full room =
     let n : ℕ = p .«allowed_count» in
     let within : n < length (p .allowed) = omega arith in
@@ -72,8 +72,8 @@ allowed-held p r full room =
 
 -- a region that is handled stands among those held, before the first whose base is not below its own
 pub regions-held : (p : Policy) (r : MemoryAccessRegion) → length (p .regions) ≡ 16 → p .«region_count» < 16
-    → regionsHeld (withRegion p r) ≡ insertBefore (λ x. leb (r .«base_ipa») (x .«base_ipa»)) r (regionsHeld p)
-unfolding withRegion
+    → regionsHeld (addRegion p r) ≡ insertBefore (λ x. leb (r .«base_ipa») (x .«base_ipa»)) r (regionsHeld p)
+unfolding addRegion
 regions-held p r full room =
     let n : ℕ = p .«region_count» in
     held-within 16 (n + 1) (insertRegion (p .regions) n r) (omega arith)
@@ -88,8 +88,8 @@ inserted-places regions n r h =
 
 -- Each call that is accepted keeps a policy well formed.
 allow-keeps : (p : Policy) (base size attributes : ℕ) → WellFormed p → CanAllow p base size
-    → WellFormed (withAllowed p (rangeOf base size attributes))
-unfolding withAllowed
+    → WellFormed (addAllowed p (rangeOf base size attributes))
+unfolding addAllowed
 allow-keeps p base size attributes w c =
     let r : Stage2Range = rangeOf base size attributes in
     let e = allowed-held p r (w .allowed-places) (c .room) in
@@ -108,8 +108,8 @@ allow-keeps p base size attributes w c =
     }
 
 handle-keeps : (p : Policy) (base size read write : ℕ) → WellFormed p → CanHandle p base size read write
-    → WellFormed (withRegion p (regionOf base size read write))
-unfolding withRegion
+    → WellFormed (addRegion p (regionOf base size read write))
+unfolding addRegion
 handle-keeps p base size read write w c =
     let r : MemoryAccessRegion = regionOf base size read write in
     let before : MemoryAccessRegion → Bool = λ x. leb base (x .«base_ipa») in

@@ -78,8 +78,8 @@ allowAnswerFor p r =
     Accepted))
 
 -- an allowed range stands after those that came before it
-unfoldable pub withAllowed : Policy → Stage2Range → Policy
-withAllowed p r = record {
+unfoldable pub addAllowed : Policy → Stage2Range → Policy
+addAllowed p r = record {
   allowed = set (p .allowed) (p .«allowed_count») r;
   «allowed_count» = p .«allowed_count» + 1;
   regions = p .regions;
@@ -92,7 +92,7 @@ allowAnswer p base size attributes = after (validateRange base size) (allowAnswe
 
 -- `allow_range`
 unfoldable pub allowRange : Policy → ℕ → ℕ → ℕ → Built
-allowRange p base size attributes = builtBy (allowAnswer p base size attributes) p (withAllowed p (rangeOf base size attributes))
+allowRange p base size attributes = builtBy (allowAnswer p base size attributes) p (addAllowed p (rangeOf base size attributes))
 
 -- refusals 6, 8 and 9: "shares a byte with an allowed range", "16 regions", "handling, shares a byte with a region"
 unfoldable pub handleAnswerFor : Policy → MemoryAccessRegion → Stage2Result
@@ -101,8 +101,8 @@ handleAnswerFor p r =
     (registerAnswer (p .regions) (p .«region_count») r)
 
 -- a region stands at its place by base
-unfoldable pub withRegion : Policy → MemoryAccessRegion → Policy
-withRegion p r = record {
+unfoldable pub addRegion : Policy → MemoryAccessRegion → Policy
+addRegion p r = record {
   allowed = p .allowed;
   «allowed_count» = p .«allowed_count»;
   regions = insertRegion (p .regions) (p .«region_count») r;
@@ -117,7 +117,7 @@ handleAnswer p base size read write =
 
 -- `handle_range`
 unfoldable pub handleRange : Policy → ℕ → ℕ → ℕ → ℕ → Built
-handleRange p base size read write = builtBy (handleAnswer p base size read write) p (withRegion p (regionOf base size read write))
+handleRange p base size read write = builtBy (handleAnswer p base size read write) p (addRegion p (regionOf base size read write))
 
 -- the lines of the table that `allow_range` meets, in its order
 abbrev pub allowCases : Policy → ℕ → ℕ → List Case

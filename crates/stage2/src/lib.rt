@@ -3,7 +3,7 @@ ghost use mathlib.Core.Path.{_≡_};
 ghost use mathlib.Core.List.{[], _∷_};
 ghost use Rattle.stage2_range.specs.declared.Stage2Result.the-variants.{Refused};
 ghost use Rattle.stage2_range.specs.Registry.{findRegion};
-ghost use Rattle.stage2.specs.Policy.{handlerOf, freshPolicy, regionsHeld, builtBy, allowAnswerFor, withAllowed, allowRange, handleAnswerFor, withRegion, handleRange};
+ghost use Rattle.stage2.specs.Policy.{handlerOf, freshPolicy, regionsHeld, builtBy, allowAnswerFor, addAllowed, allowRange, handleAnswerFor, addRegion, handleRange};
 use memory_access::Ipa;
 use stage2_range::MAX_ALLOWED_RANGES;
 use stage2_range::MemoryAccessHandler;
@@ -138,7 +138,7 @@ pub fn memory_handler(number: u64) -> MemoryHandler
 
 // Refusals 5 to 7, in order; an accepted range goes after those that are held.
 fn allow_valid(policy: Policy, range: Stage2Range) -> Built
-    ensures { λ r. ⌜ r ≡ builtBy (allowAnswerFor policy range) policy (withAllowed policy range) ⌝ }
+    ensures { λ r. ⌜ r ≡ builtBy (allowAnswerFor policy range) policy (addAllowed policy range) ⌝ }
 {
     let allowed = policy.allowed;
     let regions = policy.regions;
@@ -166,7 +166,7 @@ fn allow_valid(policy: Policy, range: Stage2Range) -> Built
 
 // Refusals 6, 8 and 9, in order; an accepted region goes to its place by base.
 fn handle_valid(policy: Policy, region: MemoryAccessRegion) -> Built
-    ensures { λ r. ⌜ r ≡ builtBy (handleAnswerFor policy region) policy (withRegion policy region) ⌝ }
+    ensures { λ r. ⌜ r ≡ builtBy (handleAnswerFor policy region) policy (addRegion policy region) ⌝ }
 {
     let allowed = policy.allowed;
     let regions = policy.regions;

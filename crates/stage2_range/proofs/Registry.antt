@@ -14,106 +14,109 @@ use Rattle.lists.proofs.Laws.{length-held, held-within, any-at, first-at, first
 use Rattle.memory_access.specs.declared.Ipa.{Ipa}
 use Rattle.stage2_range.specs.declared.Stage2Result.the-variants.{Accepted, Refused}
 use Rattle.stage2_range.specs.declared.MemoryAccessRegion.{MemoryAccessRegion}
-use Rattle.stage2_range.specs.declared.Sought.{Sought}
-use Rattle.stage2_range.specs.declared.Sought.the-variants.{Overlap, Address, BaseNotBelow}
 use Rattle.stage2_range.specs.declared.MemoryAccessHandlerMatch.{MemoryAccessHandlerMatch}
 use Rattle.stage2_range.specs.declared.RegionFound.{RegionFound}
 use Rattle.stage2_range.specs.declared.RegionFound.the-variants.{Nothing, Match}
-use Rattle.stage2_range.specs.Registry.{fits, overlapsRegions, findRegion, insertRegion, registerAnswer, registerRegion}
+use Rattle.stage2_range.specs.Registry.{hasAddress, overlapsRegions, findRegion, insertRegion, registerAnswer, registerRegion}
 use Rattle.stage2_range.specs.Ranges.{sharesByte}
 use Rattle.stage2_range.specs.declared.Stage2ConfigError.the-variants.{TooManyMemoryAccessHandlerRegions, MemoryAccessHandlerRangeOverlap}
 
 -- a region has an address exactly where "base ≤ IPA < end"
 module _ (ipa : ℕ) (r : MemoryAccessRegion) where
-  base-below : fits (Address ipa) r ≡ true → r .«base_ipa» ≤ ipa
-  unfolding fits
+  base-below : hasAddress ipa r ≡ true → r .«base_ipa» ≤ ipa
   base-below t = leb-true (r .«base_ipa») ipa (both-true (leb (r .«base_ipa») ipa) (ltb ipa (r .«end_ipa»)) t .0)
 
-  end-above : fits (Address ipa) r ≡ true → ipa < r .«end_ipa»
-  unfolding fits
+  end-above : hasAddress ipa r ≡ true → ipa < r .«end_ipa»
   end-above t = ltb-true ipa (r .«end_ipa») (both-true (leb (r .«base_ipa») ipa) (ltb ipa (r .«end_ipa»)) t .1)
 
-  pub has-address : r .«base_ipa» ≤ ipa → ipa < r .«end_ipa» → fits (Address ipa) r ≡ true
-  unfolding fits
+  pub has-address : r .«base_ipa» ≤ ipa → ipa < r .«end_ipa» → hasAddress ipa r ≡ true
   has-address h k = rw (le-leb (r .«base_ipa») ipa h, lt-ltb ipa (r .«end_ipa») k)
+
+-- a region shares a byte with a range
+abbrev sharing : ℕ → ℕ → MemoryAccessRegion → Bool
+sharing base end r = sharesByte (r .«base_ipa») (r .«end_ipa») base end
+
+-- a region's base is not below another's
+abbrev notBelow : MemoryAccessRegion → MemoryAccessRegion → Bool
+notBelow region r = leb (region .«base_ipa») (r .«base_ipa»)
 
 -- The searches of the regions, by the place of the first that fits.
 module _ (regions : List MemoryAccessRegion) (count : ℕ) (full : length regions ≡ 16) where
   held-length : length (held 16 count regions) ≡ min count 16
   held-length = length-held 16 count regions (omega arith)
 
-  pub place-within : (sought : Sought) → firstIndex (fits sought) (held 16 count regions) ≤ min count 16
-  place-within sought = omega (arith, index-le (fits sought) (held 16 count regions), held-length)
+  pub place-within : (fits : MemoryAccessRegion → Bool) → firstIndex fits (held 16 count regions) ≤ min count 16
+  place-within fits = omega (arith, index-le fits (held 16 count regions), held-length)
 
   pub overlaps-at : (base end : ℕ)
-      → overlapsRegions (held 16 count regions) base end ≡ ltb (firstIndex (fits (Overlap base end)) (held 16 count regions)) (min count 16)
+      → overlapsRegions (held 16 count regions) base end ≡ ltb (firstIndex (sharing base end) (held 16 count regions)) (min count 16)
   unfolding overlapsRegions
   overlaps-at base end =
-      any-at (fits (Overlap base end)) (held 16 count regions)
-      ∙ ap (ltb (firstIndex (fits (Overlap base end)) (held 16 count regions))) held-length
+      any-at (sharing base end) (held 16 count regions)
+      ∙ ap (ltb (firstIndex (sharing base end) (held 16 count regions))) held-length
 
   module _ (ipa : Ipa) (d : MemoryAccessRegion) where
     held-at : (k : ℕ) → k < min count 16 → getD (held 16 count regions) k d ≡ getD regions k d
     unfolding held
     held-at k h = getD-take (min count 16) regions k d h
 
-    pub found-base : (k : ℕ) → k ≡ firstIndex (fits (Address (ipa .0))) (held 16 count regions) → k < min count 16
+    pub found-base : (k : ℕ) → k ≡ firstIndex (hasAddress (ipa .0)) (held 16 count regions) → k < min count 16
         → getD regions k d .«base_ipa» ≤ ipa .0
     found-base k e h =
-        let t : fits (Address (ipa .0)) (getD (held 16 count regions) k d) ≡ true = rw e (index-fits (fits (Address (ipa .0))) (held 16 count regions) d (omega (arith, held-length))) in
+        let t : hasAddress (ipa .0) (getD (held 16 count regions) k d) ≡ true = rw e (index-fits (hasAddress (ipa .0)) (held 16 count regions) d (omega (arith, held-length))) in
         base-below (ipa .0) (getD regions k d) (rw (held-at k h) at t)
 
-    pub find-here : (k : ℕ) → k ≡ firstIndex (fits (Address (ipa .0))) (held 16 count regions) → k < min count 16
+    pub find-here : (k : ℕ) → k ≡ firstIndex (hasAddress (ipa .0)) (held 16 count regions) → k < min count 16
         → Match (record { region = getD regions k d; offset = ipa .0 - getD regions k d .«base_ipa» }) ≡ findRegion (held 16 count regions) ipa
     unfolding findRegion
     find-here k e h =
         let n : k < length (held 16 count regions) = omega (arith, held-length) in
-        let f = first-at (fits (Address (ipa .0))) (λ r. Match (record { region = r; offset = ipa .0 - r .«base_ipa» })) Nothing (held 16 count regions) d in
+        let f = first-at (hasAddress (ipa .0)) (λ r. Match (record { region = r; offset = ipa .0 - r .«base_ipa» })) Nothing (held 16 count regions) d in
         sym (f ∙ rw (← e, lt-ltb k (length (held 16 count regions)) n, held-at k h))
 
-  pub find-nothing : (ipa : Ipa) → min count 16 ≤ firstIndex (fits (Address (ipa .0))) (held 16 count regions)
+  pub find-nothing : (ipa : Ipa) → min count 16 ≤ firstIndex (hasAddress (ipa .0)) (held 16 count regions)
       → Nothing ≡ findRegion (held 16 count regions) ipa
   unfolding findRegion
   find-nothing ipa h =
-      sym (first-missing (fits (Address (ipa .0))) (λ r. Match (record { region = r; offset = ipa .0 - r .«base_ipa» })) Nothing (held 16 count regions) (omega (arith, held-length)))
+      sym (first-missing (hasAddress (ipa .0)) (λ r. Match (record { region = r; offset = ipa .0 - r .«base_ipa» })) Nothing (held 16 count regions) (omega (arith, held-length)))
 
 -- a region goes to the place of the first whose base is not below its own
 pub insert-region : (regions : List MemoryAccessRegion) (n : ℕ) (region : MemoryAccessRegion) → n ≤ 16 → n ≤ length regions
-    → insertRegion regions n region ≡ insertAt regions n (firstIndex (fits (BaseNotBelow (region .«base_ipa»))) (held 16 n regions)) region
+    → insertRegion regions n region ≡ insertAt regions n (firstIndex (notBelow region) (held 16 n regions)) region
 unfolding insertRegion
 insert-region regions n region h k =
-    rw (held-within 16 n regions h) (insert-place (fits (BaseNotBelow (region .«base_ipa»))) region regions n k)
+    rw (held-within 16 n regions h) (insert-place (notBelow region) region regions n k)
 
 -- A search answers none exactly where no region has the address, and no overlap exactly where none shares a byte.
 differs : (r : MemoryAccessRegion) (offset : ℕ) → Match (record { region = r; offset = offset }) ≡ Nothing → ⊥
 differs r offset e = let z : _≡_ {A = ℕ} 0 1 = cc in omega arith
 
 pub find-none : (regions : List MemoryAccessRegion) (ipa : Ipa) → findRegion regions ipa ≡ Nothing → (r : MemoryAccessRegion)
-    → List·Memᴰ r regions → fits (Address (ipa .0)) r ≡ false
+    → List·Memᴰ r regions → hasAddress (ipa .0) r ≡ false
 unfolding findRegion
-find-none regions ipa e = first-none (fits (Address (ipa .0))) _ Nothing (λ r t. differs r (ipa .0 - r .«base_ipa»)) regions e
+find-none regions ipa e = first-none (hasAddress (ipa .0)) _ Nothing (λ r t. differs r (ipa .0 - r .«base_ipa»)) regions e
 
 pub none-find : (regions : List MemoryAccessRegion) (ipa : Ipa)
-    → ((r : MemoryAccessRegion) → List·Memᴰ r regions → fits (Address (ipa .0)) r ≡ false) → findRegion regions ipa ≡ Nothing
+    → ((r : MemoryAccessRegion) → List·Memᴰ r regions → hasAddress (ipa .0) r ≡ false) → findRegion regions ipa ≡ Nothing
 unfolding findRegion
-none-find regions ipa h = none-first (fits (Address (ipa .0))) _ Nothing regions h
+none-find regions ipa h = none-first (hasAddress (ipa .0)) _ Nothing regions h
 
 pub regions-apart : (regions : List MemoryAccessRegion) (base end : ℕ) → overlapsRegions regions base end ≡ false → (r : MemoryAccessRegion)
     → List·Memᴰ r regions → sharesByte (r .«base_ipa») (r .«end_ipa») base end ≡ false
-unfolding overlapsRegions fits
-regions-apart regions base end e = first-none (fits (Overlap base end)) (λ r. true) false (λ r t. true≢false) regions e
+unfolding overlapsRegions
+regions-apart regions base end e = first-none (sharing base end) (λ r. true) false (λ r t. true≢false) regions e
 
 pub apart-regions : (regions : List MemoryAccessRegion) (base end : ℕ)
     → ((r : MemoryAccessRegion) → List·Memᴰ r regions → sharesByte (r .«base_ipa») (r .«end_ipa») base end ≡ false)
     → overlapsRegions regions base end ≡ false
-unfolding overlapsRegions fits
-apart-regions regions base end h = none-first (fits (Overlap base end)) (λ r. true) false regions h
+unfolding overlapsRegions
+apart-regions regions base end h = none-first (sharing base end) (λ r. true) false regions h
 
 -- The insertion: among the first n + 1 places stand the region and, in their order, the first n; the others are as they were.
 module _ (regions : List MemoryAccessRegion) (n : ℕ) (region : MemoryAccessRegion) (room : n < length regions) where
   -- what the region is inserted before, and where
   abbrev not-below : MemoryAccessRegion → Bool
-  not-below = fits (BaseNotBelow (region .«base_ipa»))
+  not-below = notBelow region
 
   abbrev point : ℕ
   point = firstIndex not-below (take n regions)
@@ -128,7 +131,6 @@ module _ (regions : List MemoryAccessRegion) (n : ℕ) (region : MemoryAccessReg
   -- the same, by the bases
   pub insert-by-base : take (n + 1) (insertRegion regions n region)
       ≡ insertBefore (λ r. leb (region .«base_ipa») (r .«base_ipa»)) region (take n regions)
-  unfolding fits
   insert-by-base = insert-front
 
   pub insert-rest : drop (n + 1) (insertRegion regions n region) ≡ drop (n + 1) regions
@@ -140,7 +142,6 @@ module _ (regions : List MemoryAccessRegion) (n : ℕ) (region : MemoryAccessReg
 
   pub insert-keeps-ascending : Ascending (λ r. r .«base_ipa») 0 (take n regions)
       → Ascending (λ r. r .«base_ipa») 0 (take (n + 1) (insertRegion regions n region))
-  unfolding fits
   insert-keeps-ascending a = rw insert-front (insert-ascending (λ r. r .«base_ipa») region 0 (take n regions) (omega arith) a)
 
 -- "8, 9", first met wins; a refusal leaves the registry as it was
@@ -171,7 +172,7 @@ orElse (Match m) other = Match m
 pub find-first : (r : MemoryAccessRegion) (regions : List MemoryAccessRegion) (ipa : Ipa)
     → findRegion (r ∷ regions) ipa ≡ orElse (findRegion (r ∷ []) ipa) (findRegion regions ipa)
 unfolding findRegion
-find-first r regions ipa = go _ (fits (Address (ipa .0)) r)
+find-first r regions ipa = go _ (hasAddress (ipa .0) r)
   where
     go : (m : MemoryAccessHandlerMatch) (b : Bool)
         → cond b (Match m) (findRegion regions ipa) ≡ orElse (cond b (Match m) Nothing) (findRegion regions ipa)
@@ -186,10 +187,10 @@ pub find-held : (regions : List MemoryAccessRegion) (ipa : Ipa) (m : MemoryAcces
     × (m .offset ≡ ipa .0 - m .region .«base_ipa»)
 unfolding findRegion
 find-held regions ipa m e =
-    let w = first-fit (fits (Address (ipa .0))) _ Nothing regions (Match m) e (differs (m .region) (m .offset)) in
+    let w = first-fit (hasAddress (ipa .0)) _ Nothing regions (Match m) e (differs (m .region) (m .offset)) in
     let s : record { region = w .0; offset = ipa .0 - w .0 .«base_ipa» } ≡ m = cc in
     rw (← s) (
-      first-member (fits (Address (ipa .0))) regions (w .0) (w .1),
+      first-member (hasAddress (ipa .0)) regions (w .0) (w .1),
       base-below (ipa .0) (w .0) (w .1 .here),
       end-above (ipa .0) (w .0) (w .1 .here),
       refl,

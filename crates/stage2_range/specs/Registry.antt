@@ -3,14 +3,12 @@ use Prim.Native.Nat.{ℕ, _+_, _-_}
 use mathlib.Core.Bool.{Bool, _&&_}
 use mathlib.Core.List.{List, [], _∷_, _++_}
 use lib.Dec.{ltb, leb}
-use lib.ListN.{take, drop, replicate}
+use lib.ListN.{take, drop}
 use Rattle.lists.specs.Lists.{held, firstOf, anyOf, insertBefore}
 use Rattle.memory_access.specs.declared.Ipa.{Ipa}
 use Rattle.stage2_range.specs.declared.Stage2ConfigError.the-variants.{TooManyMemoryAccessHandlerRegions, MemoryAccessHandlerRangeOverlap}
 use Rattle.stage2_range.specs.declared.Stage2Result.{Stage2Result}
 use Rattle.stage2_range.specs.declared.Stage2Result.the-variants.{Accepted, Refused}
-use Rattle.stage2_range.specs.declared.Sought.{Sought}
-use Rattle.stage2_range.specs.declared.Sought.the-variants.{Overlap, Address, BaseNotBelow}
 use Rattle.stage2_range.specs.declared.MemoryHandler.{MemoryHandler}
 use Rattle.stage2_range.specs.declared.MemoryHandler.the-variants.{Absent, FilteredMmio}
 use Rattle.stage2_range.specs.declared.MemoryAccessRegion.{MemoryAccessRegion}
@@ -23,27 +21,19 @@ use Rattle.stage2_range.specs.Ranges.{refuseIf, sharesByte}
 abbrev pub hasAddress : ℕ → MemoryAccessRegion → Bool
 hasAddress ipa r = leb (r .«base_ipa») ipa && ltb ipa (r .«end_ipa»)
 
--- a region is what a search looks for
-unfoldable pub fits : Sought → MemoryAccessRegion → Bool
--- "shares a byte", "whatever its size says"
-fits (Overlap base end) r = sharesByte (r .«base_ipa») (r .«end_ipa») base end
--- an address in the region
-fits (Address ipa) r = hasAddress ipa r
--- a "base is not below" another
-fits (BaseNotBelow base) r = leb base (r .«base_ipa»)
-
 -- refusals 7 and 9: "shares a byte with a region" of those held
 unfoldable pub overlapsRegions : List MemoryAccessRegion → ℕ → ℕ → Bool
-overlapsRegions regions base end = anyOf (fits (Overlap base end)) regions
+overlapsRegions regions base end = anyOf (λ r. sharesByte (r .«base_ipa») (r .«end_ipa») base end) regions
 
 -- "`find` answers the first region with base ≤ IPA < end and the offset IPA - base, else none"
 unfoldable pub findRegion : List MemoryAccessRegion → Ipa → RegionFound
 findRegion regions ipa =
-    firstOf (fits (Address (ipa .0))) (λ r. Match (record { region = r; offset = ipa .0 - r .«base_ipa» })) Nothing regions
+    firstOf (hasAddress (ipa .0)) (λ r. Match (record { region = r; offset = ipa .0 - r .«base_ipa» })) Nothing regions
 
 -- "a new region goes before the first whose base is not below its own"; the places past the count as they were
 unfoldable pub insertRegion : List MemoryAccessRegion → ℕ → MemoryAccessRegion → List MemoryAccessRegion
-insertRegion regions n region = insertBefore (fits (BaseNotBelow (region .«base_ipa»))) region (take n regions) ++ drop (n + 1) regions
+insertRegion regions n region =
+    insertBefore (λ r. leb (region .«base_ipa») (r .«base_ipa»)) region (take n regions) ++ drop (n + 1) regions
 
 -- refusals 8 and 9: "16 regions", "shares a byte with a region"
 unfoldable pub registerAnswer : List MemoryAccessRegion → ℕ → MemoryAccessRegion → Stage2Result
@@ -66,14 +56,7 @@ abbrev pub handlerNumber : MemoryHandler → ℕ
 handlerNumber Absent = 0
 handlerNumber FilteredMmio = 1
 
--- the result fields of `find`: base, size, end, read half, write half, offset; zeros where nothing is found, which is no refusal
-abbrev pub foundValues : RegionFound → List ℕ
-foundValues Nothing = replicate 6 0
-foundValues (Match m) =
-    m .region .«base_ipa»
-    ∷ m .region .size
-    ∷ m .region .«end_ipa»
-    ∷ handlerNumber (m .region .handler .read)
-    ∷ handlerNumber (m .region .handler .write)
-    ∷ m .offset
-    ∷ []
+-- the result fields of `find`: 1 where a region is found, its place among those held, and the offset in it; zeros where none is
+abbrev pub foundValues : ℕ → RegionFound → List ℕ
+foundValues place Nothing = 0 ∷ 0 ∷ 0 ∷ []
+foundValues place (Match m) = 1 ∷ place ∷ m .offset ∷ []

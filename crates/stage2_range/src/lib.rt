@@ -3,7 +3,8 @@ ghost use mathlib.Core.Path.{_≡_};
 ghost use Prim.Native.Nat.{_≤_, _<_};
 ghost use Rattle.lists.specs.Lists.{held, firstIndex, insertAt};
 ghost use Rattle.stage2_range.specs.Ranges.{validateRange, errorNumber, resultNumber, sharesByte, overlapsAllowed, alignDown, alignUp, alignedNumber, alignedValue};
-ghost use Rattle.stage2_range.specs.Registry.{fits, overlapsRegions, findRegion, registerRegion};
+ghost use Rattle.stage2_range.specs.Registry.{overlapsRegions, findRegion, registerRegion};
+ghost use Rattle.stage2_range.specs.Search.{regionFits};
 use memory_access::Ipa;
 use memory_access::MemoryAccessWidth;
 
@@ -256,7 +257,7 @@ enum Sought {
 }
 
 fn region_fits(region: MemoryAccessRegion, sought: Sought) -> bool
-    ensures { λ r. ⌜ r ≡ fits sought region ⌝ }
+    ensures { λ r. ⌜ r ≡ regionFits sought region ⌝ }
 {
     match sought {
         Sought::Overlap(base_ipa, end_ipa) => {
@@ -269,7 +270,7 @@ fn region_fits(region: MemoryAccessRegion, sought: Sought) -> bool
 
 // The place of the first region held that fits, and how many are held where none does.
 fn position(regions: [MemoryAccessRegion; 16], region_count: u64, sought: Sought) -> u64
-    ensures { λ r. ⌜ r ≡ firstIndex (fits sought) (held 16 «region_count» regions) ⌝ }
+    ensures { λ r. ⌜ r ≡ firstIndex (regionFits sought) (held 16 «region_count» regions) ⌝ }
 {
     let n = lists::held_count(region_count, MAX_MEMORY_ACCESS_HANDLERS);
     let mut i: u64 = 0;

@@ -78,12 +78,12 @@ pub fn put_word(bytes: &mut [u8], place: usize, value: u64)
     }
 }
 
-// Says to callers what the checker knows of a slice alone: lent bytes are below 256, so that a word stored where it was read changes nothing. It reads a
-// word that nobody uses, which compiles to nothing.
-pub fn are_bytes(bytes: &[u8]) -> u64
+// Says to callers what the checker knows of a slice alone: lent bytes are below 256, so that a word stored where it was read changes nothing.
+// It reads a word that nobody uses, which compiles to nothing, and returns nothing.
+pub fn are_bytes(bytes: &[u8])
     ensures { λ _. ⌜ Bytes (now (bytes .entry)) ⌝ }
 {
-    get_word(bytes, 0)
+    get_word(bytes, 0);
 }
 
 // A word as one of `limit` codes: any other word reads as 0.

@@ -1,23 +1,23 @@
-use Rattle.cores_layout.specs.Layout.{waitOf}
+use Rattle.cores_layout.specs.Layout.{waitByCode}
 use mathlib.Core.Path.{sym}
 use Rattle.cores_layout.proofs.Records.{unknown-wait}
 use Rattle.cores_layout.proofs.wait_of.Statement.{statement}
 use Rattle.cores_layout.proofs.wait_of.Tie as tie
 
 returns : tie.Need-returns
-unfolding waitOf
+unfolding waitByCode
 returns c = rw (c .match .keys1)
 
 returns-2 : tie.Need-returns-2
-unfolding waitOf
+unfolding waitByCode
 returns-2 c = rw (c .match .keys2)
 
 returns-3 : tie.Need-returns-3
-unfolding waitOf
+unfolding waitByCode
 returns-3 c = rw (c .match .keys3)
 
 returns-4 : tie.Need-returns-4
-unfolding waitOf
+unfolding waitByCode
 returns-4 c = rw (c .match .keys4)
 
 returns-5 : tie.Need-returns-5

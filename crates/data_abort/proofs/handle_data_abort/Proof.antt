@@ -1,5 +1,5 @@
-use Rattle.data_abort.specs.DataAbort.{handleDataAbort}
 use borrow.Author.Needs.{needs}
+use Rattle.data_abort.proofs.Laws.{by-outcome}
 use Rattle.data_abort.proofs.handle_data_abort.Statement.{statement}
 use Rattle.data_abort.proofs.handle_data_abort.Tie as tie
 
@@ -28,9 +28,9 @@ inject-data-abort-requires : tie.Need-inject-data-abort-requires
 inject-data-abort-requires c κs = search needs
 
 returns : tie.Need-returns
-unfolding handleDataAbort
 returns c =
     rw (
+      by-outcome _ _ _ _,
       c .advance-pc .ensures,
       c .before .before .write-gpr .ensures,
       ← c .before .before .before .before .before .before .try-memory-access-handler .ensures,
@@ -38,18 +38,18 @@ returns c =
     )
 
 returns-2 : tie.Need-returns-2
-unfolding handleDataAbort
 returns-2 c =
     rw (
+      by-outcome _ _ _ _,
       c .advance-pc2 .ensures,
       ← c .before .before .before .try-memory-access-handler .ensures,
       c .before .enum-told .given .1,
     )
 
 returns-3 : tie.Need-returns-3
-unfolding handleDataAbort
 returns-3 c =
     rw (
+      by-outcome _ _ _ _,
       c .inject-data-abort .ensures,
       ← c .before .before .before .try-memory-access-handler .ensures,
       c .before .enum-told2 .given .1,

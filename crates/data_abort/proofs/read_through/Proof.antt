@@ -1,4 +1,4 @@
-use Rattle.data_abort.specs.DataAbort.{readThrough}
+use Rattle.data_abort.specs.Outcome.{through}
 use borrow.Author.Needs.{needs}
 use Rattle.data_abort.proofs.read_through.Statement.{statement}
 use Rattle.data_abort.proofs.read_through.Tie as tie
@@ -28,11 +28,11 @@ unhandled-requires-2 : tie.Need-unhandled-requires-2
 unhandled-requires-2 c κs = search needs
 
 returns : tie.Need-returns
-unfolding readThrough
+unfolding through
 returns c = rw (c .unhandled .ensures, c .before .enum-told .given .1)
 
 returns-2 : tie.Need-returns-2
-unfolding readThrough
+unfolding through
 returns-2 c =
     rw (
       c .before .before .before .before .before .enum-told2 .given .1,
@@ -42,7 +42,7 @@ returns-2 c =
     )
 
 returns-3 : tie.Need-returns-3
-unfolding readThrough
+unfolding through
 returns-3 c =
     rw (
       c .unhandled2 .ensures,

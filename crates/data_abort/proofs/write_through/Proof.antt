@@ -1,7 +1,7 @@
 use mathlib.Core.Path.{_≡_}
-use Rattle.memory_access.specs.Transfer.{storeValue}
 use Rattle.qemu.specs.FilteredMmio.{writeFilteredMmio}
-use Rattle.data_abort.specs.DataAbort.{writeThrough}
+use Rattle.data_abort.specs.DataAbort.{pageWrite}
+use Rattle.data_abort.specs.Outcome.{through}
 use borrow.Author.Needs.{needs}
 use Rattle.data_abort.proofs.write_through.Statement.{statement}
 use Rattle.data_abort.proofs.write_through.Tie as tie
@@ -9,8 +9,7 @@ use Rattle.data_abort.proofs.write_through.Tie as tie
 -- what the page answers to the store
 stored : (c : tie.After-write-filtered-mmio) →
     let a = c .before .before .before .before .before .args in
-    c .write-filtered-mmio .result
-    ≡ writeFilteredMmio (record { ipa = a .access .ipa; offset = a .offset; width = a .access .width; value = storeValue (a .access) (a .rt) })
+    c .write-filtered-mmio .result ≡ writeFilteredMmio (pageWrite (a .access) (a .offset) (a .rt))
 stored c = rw (← c .before .store-value .ensures) (c .write-filtered-mmio .ensures)
 
 enum-told : tie.Need-enum-told
@@ -38,11 +37,11 @@ unhandled-requires-2 : tie.Need-unhandled-requires-2
 unhandled-requires-2 c κs = search needs
 
 returns : tie.Need-returns
-unfolding writeThrough
+unfolding through
 returns c = rw (c .unhandled .ensures, c .before .enum-told .given .1)
 
 returns-2 : tie.Need-returns-2
-unfolding writeThrough
+unfolding through
 returns-2 c =
     rw (
       c .before .before .before .before .enum-told2 .given .1,
@@ -51,7 +50,7 @@ returns-2 c =
     )
 
 returns-3 : tie.Need-returns-3
-unfolding writeThrough
+unfolding through
 returns-3 c =
     rw (
       c .unhandled2 .ensures,

@@ -6,7 +6,7 @@ use Rattle.lists.proofs.Laws.{cond-map}
 use Rattle.words.specs.Words.{wordAt}
 use Rattle.exceptions.specs.declared.Core.{Core}
 use Rattle.exceptions.specs.Registers.{freshCore}
-use Rattle.cores_layout.specs.Layout.{waitOf, coreAt}
+use Rattle.cores_layout.specs.Layout.{waitByCode, coreAt}
 use Rattle.lent_core.proofs.InPlace.{of-core}
 use Rattle.lent_core.proofs.get_wait.Statement.{statement}
 use Rattle.lent_core.proofs.get_wait.Tie as tie
@@ -18,11 +18,11 @@ wait-of-requires : tie.Need-wait-of-requires
 wait-of-requires c κs = search needs
 
 returns : tie.Need-returns
-unfolding freshCore coreAt waitOf
+unfolding freshCore coreAt waitByCode
 returns c = let a = c .before .before .args in
     c .wait-of .ensures
-    ∙ ap waitOf (c .before .get-at .ensures)
-    ∙ cond-map waitOf (ltb 7 (a .core)) 0 (wordAt (a .cores .now) (38 * a .core + 37))
+    ∙ ap waitByCode (c .before .get-at .ensures)
+    ∙ cond-map waitByCode (ltb 7 (a .core)) 0 (wordAt (a .cores .now) (38 * a .core + 37))
     ∙ sym (of-core (λ (one : Core). one .wait) (a .cores .now) (a .core))
 
 pub get-wait-spec : {M : Type 1} → statement M

@@ -5,12 +5,12 @@ use mathlib.Core.Path.{refl, ap, _∙_}
 use mathlib.Core.List.{[], _∷_}
 use Rattle.words.specs.Words.{withWord}
 use Rattle.words.proofs.Words.{written-whole, Stored, stored-next, stored-done, store-later}
-use Rattle.lent_core.proofs.InPlace.{firstOf, length-first}
+use Rattle.lent_core.proofs.InPlace.{firstValues, length-first}
 use Rattle.lent_core.proofs.put_forwarded.Statement.{statement}
 use Rattle.lent_core.proofs.put_forwarded.Tie as tie
 
 abbrev Inv-loop : tie.InvT-loop
-Inv-loop result₀ kind cores core count i₀ result i = Stored (λ b j w. withWord b (j + 1) w) result₀ (firstOf cores core count) result i
+Inv-loop result₀ kind cores core count i₀ result i = Stored (λ b j w. withWord b (j + 1) w) result₀ (firstValues cores core count) result i
 
 abbrev μ-loop : tie.MeasureT-loop
 μ-loop result₀ kind cores core count i₀ result i = 18 - i
@@ -45,7 +45,7 @@ loop-again c =
 returns : tie.Need-returns Inv-loop μ-loop
 returns c =
     let a = c .before .before .before .before .args in
-    let first = firstOf (a .cores .now) (a .core) (a .count) in
+    let first = firstValues (a .cores .now) (a .core) (a .count) in
     let fits = length-first (a .cores .now) (a .core) (a .count) in
     stored-done (c .before .loop .inv) (omega (arith, fits))
     ∙ store-later withWord _ 0 first

@@ -3,6 +3,7 @@ use mathlib.Core.Path.{refl}
 use mathlib.Core.List.{[], _∷_}
 use native.Mathlib.Omega.{arith}
 use borrow.Author.Tests.{lt-ltb, le-ltb}
+use Rattle.exceptions.specs.Registers.{withReturn}
 use Rattle.cores_layout.specs.Layout.{coreAt}
 use Rattle.lent_core.proofs.InPlace.{core-put}
 use Rattle.lent_core.proofs.put_return.Statement.{statement}
@@ -67,7 +68,7 @@ returns c =
     )
     (core-put (a .cores .now) (a .core)
     (λ one. (31, a .elr) ∷ (32, a .spsr) ∷ (33, el1 .elr) ∷ (34, el1 .spsr) ∷ (35, el1 .far) ∷ (36, el1 .esr) ∷ [])
-    (λ one. record { x = one .x; elr = a .elr; spsr = a .spsr; el1 = el1; wait = one .wait })
+    (λ one. withReturn one (a .elr) (a .spsr) el1)
     (s .are-bytes .ensures) (omega arith) refl (omega arith))
 
 returns-2 : tie.Need-returns-2

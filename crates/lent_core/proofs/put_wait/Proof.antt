@@ -5,6 +5,7 @@ use mathlib.Core.List.{[], _∷_}
 use native.Mathlib.Omega.{arith}
 use borrow.Author.Tests.{lt-ltb, le-ltb}
 use Rattle.words.specs.Words.{wordAt, keptCode}
+use Rattle.forwarded_call.specs.ForwardedCall.{withWait}
 use Rattle.cores_layout.specs.Layout.{waitNumber, coreAt}
 use Rattle.lent_core.proofs.InPlace.{core-put}
 use Rattle.lent_core.proofs.put_wait.Statement.{statement}
@@ -32,7 +33,7 @@ put-word-requires : tie.Need-put-word-requires
 put-word-requires c κs = search needs
 
 returns : tie.Need-returns
-unfolding coreAt
+unfolding coreAt withWait
 returns c = let s = c .before .before .before .before .before .before .before .before in
     let a = s .before .before .before .args in
     rw (
@@ -44,7 +45,7 @@ returns c = let s = c .before .before .before .before .before .before .before .b
     )
     (core-put (a .cores .now) (a .core)
     (λ one. (37, keptCode 5 (wordAt (a .cores .now) (38 * a .core + 37)) (waitNumber (a .wait))) ∷ [])
-    (λ one. record { x = one .x; elr = one .elr; spsr = one .spsr; el1 = one .el1; wait = a .wait })
+    (λ one. withWait one (a .wait))
     (s .are-bytes .ensures) (omega arith) refl (omega arith))
 
 returns-2 : tie.Need-returns-2

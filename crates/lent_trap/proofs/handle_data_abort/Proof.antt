@@ -2,7 +2,7 @@ use native.Mathlib.Omega.{arith}
 use borrow.Author.Needs.{needs}
 use mathlib.Core.Path.{refl, sym, ap, _∙_}
 use borrow.Author.Tests.{le-ltb}
-use Rattle.data_abort.specs.DataAbort.{handleDataAbort}
+use Rattle.data_abort.proofs.Laws.{by-outcome}
 use Rattle.hypervisor.specs.Answers.{answered}
 use Rattle.lent_trap.proofs.handle_data_abort.Statement.{statement}
 use Rattle.lent_trap.proofs.handle_data_abort.Tie as tie
@@ -41,44 +41,45 @@ inject-data-abort-requires : tie.Need-inject-data-abort-requires
 inject-data-abort-requires c κs = search needs
 
 returns : tie.Need-returns
-unfolding handleDataAbort answered
+unfolding answered
 returns c =
     let s = c .before .before .before .before in
     let t = s .before .before .before .before .before in
     let a = t .before .before .args in (
-      rw (← t .try-memory-access-handler .ensures, s .before .before .before .outcome .given .1) (c .answer .ensures .0),
+      rw (by-outcome _ _ _ _, ← t .try-memory-access-handler .ensures, s .before .before .before .outcome .given .1) (c .answer .ensures .0),
       rw (
+        by-outcome _ _ _ _,
         c .before .before .put-counter .ensures,
         s .put-load .ensures,
         le-ltb 7 (a .core) (omega arith),
         ← t .try-memory-access-handler .ensures,
         s .before .before .before .outcome .given .1,
       ),
-      rw (← t .try-memory-access-handler .ensures, s .before .before .before .outcome .given .1) (c .answer .ensures .1),
+      rw (by-outcome _ _ _ _, ← t .try-memory-access-handler .ensures, s .before .before .before .outcome .given .1) (c .answer .ensures .1),
     )
 
 returns-2 : tie.Need-returns-2
-unfolding handleDataAbort answered
+unfolding answered
 returns-2 c =
     let s = c .before .before .before .before in
     let t = s .before .before .before .before in
     let a = t .before .before .args in (
-      rw (← t .try-memory-access-handler .ensures, s .before .before .enum-told .given .1) (c .answer2 .ensures .0),
+      rw (by-outcome _ _ _ _, ← t .try-memory-access-handler .ensures, s .before .before .enum-told .given .1) (c .answer2 .ensures .0),
       rw (
+        by-outcome _ _ _ _,
         c .before .before .put-counter2 .ensures,
         s .put-advanced .ensures,
         le-ltb 7 (a .core) (omega arith),
         ← t .try-memory-access-handler .ensures,
         s .before .before .enum-told .given .1,
       ),
-      rw (← t .try-memory-access-handler .ensures, s .before .before .enum-told .given .1) (c .answer2 .ensures .1),
+      rw (by-outcome _ _ _ _, ← t .try-memory-access-handler .ensures, s .before .before .enum-told .given .1) (c .answer2 .ensures .1),
     )
 
 returns-3 : tie.Need-returns-3
-unfolding handleDataAbort
 returns-3 c =
     let t = c .before .before .before .before .before in
-    rw (← t .try-memory-access-handler .ensures, c .before .before .before .enum-told2 .given .1) (c .inject-data-abort .ensures)
+    rw (by-outcome _ _ _ _, ← t .try-memory-access-handler .ensures, c .before .before .before .enum-told2 .given .1) (c .inject-data-abort .ensures)
 
 pub handle-data-abort-spec : {M : Type 1} → statement M
 handle-data-abort-spec =

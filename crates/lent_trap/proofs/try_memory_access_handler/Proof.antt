@@ -1,5 +1,5 @@
 use borrow.Author.Needs.{needs}
-use Rattle.data_abort.specs.DataAbort.{tryMemoryAccess}
+use Rattle.data_abort.specs.Outcome.{tryMemoryAccess}
 use Rattle.lent_trap.proofs.try_memory_access_handler.Statement.{statement}
 use Rattle.lent_trap.proofs.try_memory_access_handler.Tie as tie
 

@@ -3,7 +3,7 @@ use mathlib.Core.Path.{_≡_, refl}
 use mathlib.Core.Bool.{Bool, true, false, not, cond}
 use Prim.Native.Nat.{ℕ}
 use borrow.Author.Tests.{eq-eqb, ne-eqb}
-use Rattle.simple_map.specs.Map.{freePlace, fits, isFree, holdsKey}
+use Rattle.simple_map.specs.Map.{freePlace, isFree, holdsKey, isFree, holdsKey}
 use Rattle.map_layout.specs.Layout.{placeAt}
 use Rattle.map_layout.proofs.place_fits.Statement.{statement}
 use Rattle.map_layout.proofs.place_fits.Tie as tie
@@ -16,7 +16,7 @@ get-word-requires c κs = search needs
 
 -- a free place is not one with the key
 free-fits : (t : Bool) (key : ℕ) → not t ≡ cond t (holdsKey key) isFree freePlace
-unfolding fits
+unfolding isFree holdsKey
 free-fits true key = refl
 free-fits false key = refl
 
@@ -33,7 +33,7 @@ get-word-requires-2 : tie.Need-get-word-requires-2
 get-word-requires-2 c κs = search needs
 
 returns-2 : tie.Need-returns-2
-unfolding placeAt fits
+unfolding placeAt isFree holdsKey
 returns-2 c =
     rw (
       c .get-word2 .ensures,
@@ -43,7 +43,7 @@ returns-2 c =
     )
 
 returns-3 : tie.Need-returns-3
-unfolding placeAt fits
+unfolding placeAt isFree holdsKey
 returns-3 c = rw (c .if2 .left, ← c .before .before .get-word .ensures, eq-eqb _ _ (c .before .if1 .left))
 
 pub place-fits-spec : {M : Type 1} → statement M

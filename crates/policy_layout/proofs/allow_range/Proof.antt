@@ -6,7 +6,7 @@ use Rattle.stage2_range.specs.declared.Stage2Result.the-variants.{Accepted}
 use Rattle.stage2_range.specs.Ranges.{errorNumber}
 use Rattle.stage2_range.proofs.Ranges.{accepted-valid}
 use Rattle.stage2.specs.declared.Built.{Built}
-use Rattle.stage2.specs.Policy.{rangeOf, withAllowed, allowRange}
+use Rattle.stage2.specs.Policy.{rangeOf, addAllowed, allowRange}
 use Rattle.stage2.proofs.Laws.{error-not-zero, allow-accepted}
 use Rattle.policy_layout.specs.Layout.{policyAt}
 use Rattle.policy_layout.proofs.States.{allowed-count}
@@ -17,7 +17,7 @@ use Rattle.policy_layout.proofs.allow_range.Tie as tie
 accepted : (c : tie.After-enum-told2) →
     let a = c .before .before .before .before .before .before .before .args in
     let p = policyAt (a .policy .now) in
-    allowRange p (a .base-ipa) (a .size) (a .attributes) ≡ record { answer = Accepted; policy = withAllowed p (rangeOf (a .base-ipa) (a .size) (a .attributes)) }
+    allowRange p (a .base-ipa) (a .size) (a .attributes) ≡ record { answer = Accepted; policy = addAllowed p (rangeOf (a .base-ipa) (a .size) (a .attributes)) }
 unfolding allowRange
 accepted c = rw (← c .before .before .before .before .before .before .validate-range .ensures, c .before .before .before .before .enum-told .given .1, ← c .before .before .allow-answer-for .ensures, c .enum-told2 .given .1)
 
@@ -62,7 +62,7 @@ returns-2 c =
     (rw (← c .before .before .before .before .before .before .before .validate-range .ensures, c .before .before .before .before .before .enum-told .given .1, ← c .before .before .before .allow-answer-for .ensures, c .before .error2 .given .1), rw (ne-eqb (errorNumber e) 0 (error-not-zero e)))
 
 returns-3 : tie.Need-returns-3
-unfolding withAllowed policyAt
+unfolding addAllowed policyAt
 returns-3 c =
     let e = accepted (c .before .before) in
     (rw e, rw e (c .add-range .ensures))

@@ -7,7 +7,7 @@ use Rattle.stage2_range.specs.declared.Stage2Result.the-variants.{Accepted}
 use Rattle.stage2_range.specs.Ranges.{errorNumber}
 use Rattle.stage2_range.proofs.Ranges.{accepted-valid}
 use Rattle.stage2.specs.declared.Built.{Built}
-use Rattle.stage2.specs.Policy.{isHandler, regionOf, withRegion, handleRange}
+use Rattle.stage2.specs.Policy.{isHandler, regionOf, addRegion, handleRange}
 use Rattle.stage2.proofs.Laws.{error-not-zero, handle-accepted}
 use Rattle.policy_layout.specs.Layout.{policyAt}
 use Rattle.policy_layout.proofs.States.{region-count}
@@ -25,7 +25,7 @@ write-known c = sym (c .before .is-handler2 .ensures) ∙ not-false (c .before .
 accepted : (c : tie.After-enum-told2) →
     let a = c .before .before .before .before .before .before .before .before .before .before .before .before .args in
     let p = policyAt (a .policy .now) in
-    handleRange p (a .base-ipa) (a .size) (a .read) (a .write) ≡ record { answer = Accepted; policy = withRegion p (regionOf (a .base-ipa) (a .size) (a .read) (a .write)) }
+    handleRange p (a .base-ipa) (a .size) (a .read) (a .write) ≡ record { answer = Accepted; policy = addRegion p (regionOf (a .base-ipa) (a .size) (a .read) (a .write)) }
 unfolding handleRange
 accepted c =
     rw (
@@ -108,7 +108,7 @@ returns-4 c =
     )
 
 returns-5 : tie.Need-returns-5
-unfolding withRegion policyAt
+unfolding addRegion policyAt
 returns-5 c =
     let e = accepted (c .before .before) in
     (rw e, rw (e, ← c .before .before .before .before .before .before .region-of .ensures) (c .insert-region .ensures))

@@ -5,7 +5,7 @@ use mathlib.Core.Bool.{true, false}
 use Rattle.lists.specs.Lists.{held}
 use Rattle.lists.proofs.Laws.{FirstLeft, first-here, first-later, first-done}
 use Rattle.stage2_range.specs.Ranges.{sharesByte}
-use Rattle.stage2_range.specs.Registry.{fits, overlapsRegions}
+use Rattle.stage2_range.specs.Registry.{overlapsRegions}
 use Rattle.stage2.specs.Policy.{regionsHeld}
 use Rattle.words.specs.Words.{wordAt, each}
 use Rattle.policy_layout.specs.Layout.{regionAt, policyAt}
@@ -26,7 +26,7 @@ held-count-requires : tie.Need-held-count-requires Inv-loop μ-loop
 held-count-requires c κs = omega arith
 
 loop-holds : tie.Need-loop-holds Inv-loop μ-loop
-unfolding policyAt held overlapsRegions fits
+unfolding policyAt held overlapsRegions
 loop-holds c = record { within = omega arith; left = refl }
 
 mul-shares-byte : tie.Need-mul-shares-byte Inv-loop μ-loop

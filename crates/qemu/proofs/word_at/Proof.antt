@@ -1,30 +1,30 @@
 use borrow.Author.Tests.{ne-eqb}
-use Rattle.qemu.specs.FilteredMmio.{wordAt}
+use Rattle.qemu.specs.FilteredMmio.{pageWord}
 use Rattle.qemu.proofs.word_at.Statement.{statement}
 use Rattle.qemu.proofs.word_at.Tie as tie
 
 returns : tie.Need-returns
-unfolding wordAt
+unfolding pageWord
 returns c = rw (c .match .keys1)
 
 returns-2 : tie.Need-returns-2
-unfolding wordAt
+unfolding pageWord
 returns-2 c = rw (c .match .keys2)
 
 returns-3 : tie.Need-returns-3
-unfolding wordAt
+unfolding pageWord
 returns-3 c = rw (c .match .keys3)
 
 returns-4 : tie.Need-returns-4
-unfolding wordAt
+unfolding pageWord
 returns-4 c = rw (c .match .keys4)
 
 returns-5 : tie.Need-returns-5
-unfolding wordAt
+unfolding pageWord
 returns-5 c = rw (c .match .keys5)
 
 returns-6 : tie.Need-returns-6
-unfolding wordAt
+unfolding pageWord
 returns-6 c =
     let o = c .before .args .offset in
     rw (

@@ -1,4 +1,4 @@
-use Rattle.simple_map.specs.Map.{fits}
+use Rattle.simple_map.specs.Map.{isFree, holdsKey}
 use borrow.Author.Needs.{needs}
 use Rattle.simple_map.proofs.place_fits.Statement.{statement}
 use Rattle.simple_map.proofs.place_fits.Tie as tie
@@ -22,19 +22,19 @@ enum-known-sought : tie.Need-enum-known-sought
 enum-known-sought c = search needs
 
 returns : tie.Need-returns
-unfolding fits
+unfolding isFree holdsKey
 returns c = rw (c .before .before .enum-told .given .1, c .enum-told2 .given .1)
 
 returns-2 : tie.Need-returns-2
-unfolding fits
+unfolding isFree holdsKey
 returns-2 c = rw (c .before .before .enum-told .given .1, c .enum-told3 .given .1)
 
 returns-3 : tie.Need-returns-3
-unfolding fits
+unfolding isFree holdsKey
 returns-3 c = rw (c .before .before .before .item .given .1, c .enum-told4 .given .1)
 
 returns-4 : tie.Need-returns-4
-unfolding fits
+unfolding isFree holdsKey
 returns-4 c = rw (c .before .before .before .before .before .item .given .1, c .before .before .sought .given .1)
 
 pub place-fits-spec : {M : Type 1} → statement M

@@ -5,12 +5,12 @@ use native.Mathlib.Omega.{arith}
 use borrow.Author.Needs.{needs}
 use Rattle.lists.specs.Lists.{firstIndex}
 use Rattle.lists.proofs.Laws.{IndexLeft, index-start, index-here, index-later, index-done}
-use Rattle.simple_map.specs.Map.{fits}
+use Rattle.simple_map.specs.Search.{placeFits}
 use Rattle.simple_map.proofs.position.Statement.{statement}
 use Rattle.simple_map.proofs.position.Tie as tie
 
 abbrev Inv-loop : tie.InvT-loop
-Inv-loop sought items i₀ i = IndexLeft (fits sought) items 8 i (firstIndex (fits sought) items)
+Inv-loop sought items i₀ i = IndexLeft (placeFits sought) items 8 i (firstIndex (placeFits sought) items)
 
 abbrev μ-loop : tie.MeasureT-loop
 μ-loop sought items i₀ i = 8 - i

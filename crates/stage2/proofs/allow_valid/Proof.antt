@@ -3,7 +3,7 @@ use mathlib.Core.Path.{_≡_, sym, _∙_}
 use mathlib.Core.Bool.{false}
 use lib.Dec.{leb}
 use Rattle.stage2_range.specs.Ranges.{overlapsAllowed}
-use Rattle.stage2.specs.Policy.{allowedHeld, allowAnswerFor, withAllowed}
+use Rattle.stage2.specs.Policy.{allowedHeld, allowAnswerFor, addAllowed}
 use borrow.Author.Needs.{needs}
 use Rattle.stage2.proofs.allow_valid.Statement.{statement}
 use Rattle.stage2.proofs.allow_valid.Tie as tie
@@ -65,7 +65,7 @@ add-next : tie.Need-add-next
 add-next c = search needs
 
 returns-4 : tie.Need-returns-4
-unfolding allowAnswerFor withAllowed
+unfolding allowAnswerFor addAllowed
 returns-4 c =
     rw (
       room (c .before .before .before .before),

@@ -7,7 +7,7 @@ use Rattle.stage2_range.specs.declared.Stage2Result.the-variants.{Accepted, Ref
 use Rattle.stage2_range.specs.declared.MemoryAccessRegion.{MemoryAccessRegion}
 use Rattle.stage2.specs.declared.Policy.{Policy}
 use Rattle.stage2.specs.declared.Built.{Built}
-use Rattle.stage2.specs.Policy.{allowedHeld, builtBy, handleAnswerFor, withRegion}
+use Rattle.stage2.specs.Policy.{allowedHeld, builtBy, handleAnswerFor, addRegion}
 use borrow.Author.Needs.{needs}
 use Rattle.stage2.proofs.handle_valid.Statement.{statement}
 use Rattle.stage2.proofs.handle_valid.Tie as tie
@@ -25,8 +25,8 @@ registered-built : (answer : Stage2Result) (p : Policy) (r : MemoryAccessRegion)
         «region_count» = registered .«region_count»;
       };
     })
-    (builtBy answer p (withRegion p r))
-unfolding withRegion
+    (builtBy answer p (addRegion p r))
+unfolding addRegion
 registered-built Accepted p r = refl
 registered-built (Refused error) p r = refl
 

@@ -5,13 +5,13 @@ use native.Mathlib.Omega.{arith}
 use borrow.Author.Needs.{needs}
 use Rattle.lists.specs.Lists.{held, firstIndex}
 use Rattle.lists.proofs.Laws.{IndexLeft, index-here, index-later, index-done}
-use Rattle.stage2_range.specs.Registry.{fits}
+use Rattle.stage2_range.specs.Search.{regionFits}
 use Rattle.stage2_range.proofs.position.Statement.{statement}
 use Rattle.stage2_range.proofs.position.Tie as tie
 
 abbrev Inv-loop : tie.InvT-loop
 Inv-loop region-count sought regions n i₀ i =
-    IndexLeft (fits sought) regions (min region-count 16) i (firstIndex (fits sought) (held 16 region-count regions))
+    IndexLeft (regionFits sought) regions (min region-count 16) i (firstIndex (regionFits sought) (held 16 region-count regions))
 
 abbrev μ-loop : tie.MeasureT-loop
 μ-loop region-count sought regions n i₀ i = n - i

@@ -1,5 +1,4 @@
 use borrow.Author.Tests.{le-leb, lt-leb}
-use Rattle.stage2_range.specs.Registry.{fits}
 use borrow.Author.Needs.{needs}
 use Rattle.stage2_range.proofs.region_fits.Statement.{statement}
 use Rattle.stage2_range.proofs.region_fits.Tie as tie
@@ -17,19 +16,15 @@ enum-known-sought-3 : tie.Need-enum-known-sought-3
 enum-known-sought-3 c = search needs
 
 returns : tie.Need-returns
-unfolding fits
 returns c = rw (c .page-ranges-overlap .ensures, c .before .before .sought .given .1)
 
 returns-2 : tie.Need-returns-2
-unfolding fits
 returns-2 c = rw (c .before .before .before .before .sought2 .given .1, le-leb _ _ (c .before .if1 .taken))
 
 returns-3 : tie.Need-returns-3
-unfolding fits
 returns-3 c = rw (c .before .before .before .sought2 .given .1, lt-leb _ _ (c .if1 .left))
 
 returns-4 : tie.Need-returns-4
-unfolding fits
 returns-4 c = rw (c .before .before .sought3 .given .1)
 
 pub region-fits-spec : {M : Type 1} → statement M

@@ -1,4 +1,4 @@
-use Rattle.stage2_range.specs.declared.Sought.the-variants.{BaseNotBelow}
+use lib.Dec.{leb}
 use Rattle.stage2_range.proofs.Registry.{place-within}
 use mathlib.Core.Path.{_≡_, sym, _∙_}
 use mathlib.Core.Bool.{false}
@@ -34,7 +34,7 @@ position-requires c κs = search needs
 place-at-requires : tie.Need-place-at-requires
 place-at-requires c κs =
     let a = c .before .before .before .before .args in
-    omega (arith, c .position .ensures, place-within (a .regions) (a .region-count) (omega arith) (BaseNotBelow (a .region .«base_ipa»)))
+    omega (arith, c .position .ensures, place-within (a .regions) (a .region-count) (omega arith) (λ r. leb (a .region .«base_ipa») (r .«base_ipa»)))
 
 add-t14 : tie.Need-add-t14
 add-t14 c = search needs

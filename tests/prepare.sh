@@ -1,0 +1,60 @@
+# Sourced by demo, by the scripts of tests/ and by those of oracle/: finds what a script needs before anything is proved
+# or built. What is missing is told in one line. The functions from find_kit on work in the repository's top folder.
+
+# Says in one line what is missing, and ends the script: STATUS TEXT.
+missing() {
+    echo "$0: $2" >&2
+    exit "$1"
+}
+
+# Says which of these commands is not on the path, if one is not.
+lacks() {
+    for command; do
+        if ! command -v "$command" >/dev/null; then
+            echo "there is no $command on the path"
+            return
+        fi
+    done
+}
+
+# Says what is missing for the cargo package in a folder, if something is: cargo, as new as the package asks for, or cc,
+# by which cargo links.
+lacks_cargo() {
+    lacking=$(lacks cargo cc)
+    wanted=$(sed -n 's/^rust-version = "1\.\([0-9]*\)"$/\1/p' "$1/Cargo.toml")
+    version=$(cargo --version 2>/dev/null) || version="a cargo that does not run"
+    minor=$(echo "$version" | sed -n 's/^cargo 1\.\([0-9]*\)\..*/\1/p')
+    if [ -n "$lacking" ]; then
+        echo "$lacking"
+    elif [ "${minor:-0}" -lt "$wanted" ]; then
+        echo "cargo 1.$wanted or later is needed, and there is $version"
+    fi
+}
+
+# Asks for commands on the path.
+need() {
+    lacking=$(lacks "$@")
+    [ -z "$lacking" ] || missing 2 "$lacking"
+}
+
+# Asks for the kit, and says so where it is another than the one that the file KIT names, which proves this tree.
+find_kit() {
+    need rt
+    installed=$(rt version)
+    recorded=$(cat KIT)
+    [ "$installed" = "$recorded" ] || echo "$0: the kit is $installed; this tree was proved with $recorded"
+}
+
+# Asks for a folder target/ that can be written.
+find_target() {
+    probe=$(mkdir -p target 2>/dev/null && mktemp target/probe.XXXXXX 2>/dev/null) ||
+        missing 2 "the folder $PWD/target cannot be written"
+    rm "$probe"
+}
+
+# Proves the library and writes its archive. rt staticlib proves the crates below one after the other, so rt check
+# proves them before it, several at a time.
+build_archive() {
+    # shellcheck disable=SC2046 # a word a crate
+    rt check $(sed -n 's/^ritm://p' crates.txt) && rt staticlib ritm
+}
