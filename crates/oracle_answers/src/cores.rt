@@ -1,62 +1,60 @@
-// The records of the cores: 4 to 7, and their state, f.
+// The records of the cores: 4 to 7, 14 and 16, and their state, f.
 ghost use Prim.Native.Nat.{_^_, _<_};
-use super::line::MAX_FIELDS;
-use super::state::Answer;
-use super::state::Arguments;
 use super::state::State;
 use super::state::Step;
-use super::state::copy;
-use super::state::no_record;
-use super::state::one_word;
 use data_abort::TrapRegisters;
 use exceptions::Core;
+use exceptions::GprWritten;
 use forwarded_call::HvcReply;
 use hypervisor::CoresStep;
 use memory_access::Fipa;
+use records::MAX_FIELDS;
+use records::Record;
 
 // core x0..x30 elr spsr | number
-pub(crate) fn save(state: State, fields: [u64; MAX_FIELDS], core: u64) -> Step {
-    let mut x = [0u64; 31];
-    copy(&fields[2..33], &mut x);
+pub(crate) fn save(state: State, record: Record, fields: [u64; MAX_FIELDS]) -> Step {
     let cores = state.cores;
-    let saved = hypervisor::save(cores, core, x, fields[33], fields[34]);
-    stepped(state, fields, saved)
+    let x = records::registers(fields);
+    stepped(
+        state,
+        record,
+        hypervisor::save(cores, fields[1], x, fields[33], fields[34]),
+    )
 }
 
 // What a save or a reply comes to.
-fn stepped(state: State, fields: [u64; MAX_FIELDS], step: CoresStep) -> Step {
+fn stepped(state: State, record: Record, step: CoresStep) -> Step {
     let answer = step.answer;
     let cores = step.cores;
     let mut next = state;
     next.cores = cores;
     Step {
-        answer: one_word(fields, answer.number()),
+        record: record.expect(answer.number()),
         state: next,
     }
 }
 
 // core esr fipa far vbar | number kind v0..v17
-pub(crate) fn trap(state: State, fields: [u64; MAX_FIELDS], arguments: Arguments) -> Step {
+pub(crate) fn trap(state: State, record: Record, fields: [u64; MAX_FIELDS]) -> Step {
     let registers = TrapRegisters {
-        esr: arguments.b,
-        fipa: Fipa(arguments.c),
-        far: arguments.d,
-        vbar: arguments.e,
+        esr: fields[2],
+        fipa: Fipa(fields[3]),
+        far: fields[4],
+        vbar: fields[5],
     };
     let policy = state.policy;
     let cores = state.cores;
     let map = state.map;
-    let step = hypervisor::trap(policy, cores, state.counter, arguments.a, registers);
+    let step = hypervisor::trap(policy, cores, state.counter, fields[1], registers);
     let answer = step.answer;
     let values = step.values;
     let policy = step.policy;
     let cores = step.cores;
     Step {
-        answer: Answer {
-            fields: with_values(fields, values),
-            first: answer.number(),
-            words: [answer.kind(), 0, 0, 0, 0, 0],
-        },
+        record: record
+            .expect(answer.number())
+            .expect(answer.kind())
+            .expect_values(values),
         state: State {
             policy,
             cores,
@@ -66,30 +64,22 @@ pub(crate) fn trap(state: State, fields: [u64; MAX_FIELDS], arguments: Arguments
     }
 }
 
-fn with_values(fields: [u64; MAX_FIELDS], values: [u64; 18]) -> [u64; MAX_FIELDS] {
-    let mut answered = fields;
-    copy(&values, &mut answered[8..26]);
-    answered
-}
-
 // core kind v0..v17 error | number
-pub(crate) fn reply(state: State, fields: [u64; MAX_FIELDS], core: u64, kind: u64) -> Step {
+pub(crate) fn reply(state: State, record: Record, fields: [u64; MAX_FIELDS]) -> Step {
     let error = fields[21];
     if 0xFFFF_FFFF < error {
         return Step {
-            answer: no_record(fields),
+            record: record.no_record(),
             state,
         };
     }
-    let mut values = [0u64; 18];
-    copy(&fields[3..21], &mut values);
     let reply = HvcReply {
-        kind,
-        values,
+        kind: fields[2],
+        values: records::values(fields),
         error: signed(error),
     };
     let cores = state.cores;
-    stepped(state, fields, hypervisor::reply(cores, core, reply))
+    stepped(state, record, hypervisor::reply(cores, fields[1], reply))
 }
 
 // The number whose 32-bit two's complement word this is.
@@ -106,41 +96,58 @@ fn signed(word: u64) -> i32
 const LAST_CORE: u64 = 7;
 
 // core index value | number
-pub(crate) fn write_gpr(state: State, fields: [u64; MAX_FIELDS], arguments: Arguments) -> Step {
-    let at = arguments.a;
+pub(crate) fn write_gpr(
+    state: State,
+    record: Record,
+    fields: [u64; MAX_FIELDS],
+    lent: bool,
+) -> Step {
+    let at = fields[1];
     if LAST_CORE < at {
         return Step {
-            answer: no_record(fields),
+            record: record.no_record(),
             state,
         };
     }
     let core = state.cores[at as usize];
-    let written = core.write_gpr(arguments.b as usize, arguments.c);
+    let written = written(core, fields[2] as usize, fields[3], lent);
     let answer = written.answer;
     let after = written.core;
     let mut next = state;
     next.cores[at as usize] = after;
     Step {
-        answer: one_word(fields, answer.number()),
+        record: record.expect(answer.number()),
         state: next,
     }
 }
 
-// The core's number, 7 where there is no such core, and its state: x0..x30 elr spsr elr_el1 spsr_el1 far_el1 esr_el1.
-pub(crate) fn core_state(cores: [Core; 8], fields: [u64; MAX_FIELDS], core: u64) -> Answer {
-    let at = lists::held_count(core, LAST_CORE);
-    let core = cores[at as usize];
-    let x = core.x;
-    let el1 = core.el1;
-    Answer {
-        fields: with_registers(fields, x),
-        first: at,
-        words: [core.elr, core.spsr, el1.elr, el1.spsr, el1.far, el1.esr],
+// The register written in the form that is asked for.
+fn written(core: Core, index: usize, value: u64, lent: bool) -> GprWritten {
+    if lent {
+        exceptions::write_gpr_by_loan(core, index, value)
+    } else {
+        core.write_gpr(index, value)
     }
 }
 
-fn with_registers(fields: [u64; MAX_FIELDS], x: [u64; 31]) -> [u64; MAX_FIELDS] {
-    let mut answered = fields;
-    copy(&x, &mut answered[2..33]);
-    answered
+// core index | number value
+pub(crate) fn read_gpr(record: Record, cores: [Core; 8], core: u64, index: u64) -> Record {
+    if LAST_CORE < core {
+        return record.no_record();
+    }
+    let read = cores[core as usize].read_gpr(index as usize);
+    record.expect(read.number()).expect(read.value())
+}
+
+// core | x0..x30 elr spsr elr_el1 spsr_el1 far_el1 esr_el1
+pub(crate) fn core_state(record: Record, cores: [Core; 8], core: u64) -> Record {
+    if LAST_CORE < core {
+        return record.no_record();
+    }
+    let core = cores[core as usize];
+    let x = core.x;
+    let el1 = core.el1;
+    record.expect_registers(x).expect_all(
+        &[core.elr, core.spsr, el1.elr, el1.spsr, el1.far, el1.esr],
+    )
 }

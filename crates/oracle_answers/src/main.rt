@@ -1,33 +1,29 @@
 // Replays answers of RITM's Rust, read from standard input, through the library, and says how many agree and the first that does not.
 mod cores;
 mod entries;
-mod line;
 mod policy;
-mod record;
+mod replay;
 mod state;
 mod values;
 
-ghost use mathlib.Core.Path.{_≡_};
-ghost use Prim.Native.Nat.{_^_, _<_};
-ghost use lib.ListN.{length};
 use libc::STDIN_FILENO;
 use libc::STDOUT_FILENO;
-use record::Difference;
-use record::Outcome;
-
-// One byte more than the longest input.
-const INPUT_SIZE: usize = 0x10_0000;
-
-fn input_buffer() -> [u8; INPUT_SIZE]
-    ensures { λ r. ⌜ 0x10_0000 ≡ length r ⌝ }
-{
-    [0; INPUT_SIZE]
-}
+use records::Difference;
+use records::Line;
+use records::Outcome;
+use state::State;
 
 // The line that says how many records agree.
 fn say_agreed(agreed: u64) {
     io::print_decimal(STDOUT_FILENO, agreed);
     io::write_all(STDOUT_FILENO, b" records agree\n");
+}
+
+// Begins the line about the first record that does not agree, after the line about those that do.
+fn say_line(agreed: u64) {
+    say_agreed(agreed);
+    io::write_all(STDOUT_FILENO, b"line ");
+    io::print_decimal(STDOUT_FILENO, std::num::wrapping_add_u64(agreed, 1));
 }
 
 fn say_difference(difference: Difference) {
@@ -40,58 +36,124 @@ fn say_difference(difference: Difference) {
     io::write_all(STDOUT_FILENO, b"\n");
 }
 
-// Begins the line about the first record that does not agree, after the line about those that do.
-fn say_line(agreed: u64)
-    requires { ⌜ agreed < 2 ^ 63 ⌝ }
-{
-    say_agreed(agreed);
-    io::write_all(STDOUT_FILENO, b"line ");
-    io::print_decimal(STDOUT_FILENO, agreed + 1);
-}
-
-// Whether the run goes on after such an outcome; where not, says why. An answer with another code than the line stands for none.
-fn goes_on(outcome: Outcome, agreed: u64) -> bool
-    requires { ⌜ agreed < 2 ^ 63 ⌝ }
-{
+// Whether the run goes on after such an outcome; where not, says why.
+fn goes_on(outcome: Outcome, agreed: u64) -> bool {
     match outcome {
         Outcome::Agrees => true,
         Outcome::Differs(difference) => {
             say_line(agreed);
-            if difference.field == 1 {
-                io::write_all(STDOUT_FILENO, b" is not a record\n");
-            } else {
-                say_difference(difference);
-            }
+            say_difference(difference);
+            false
+        }
+        Outcome::NoRecord => {
+            say_line(agreed);
+            io::write_all(STDOUT_FILENO, b" is not a record\n");
             false
         }
     }
 }
 
-fn replay(text: &[u8]) {
-    let mut state = state::fresh(0);
-    let mut agreed: u64 = 0;
-    let mut at: usize = 0;
-    while at < text.len() {
-        let end = line::position(text, at, b'\n');
-        let step = record::replay(state, line::parse(&text[at..end]));
-        let outcome = step.outcome;
-        if !goes_on(outcome, agreed) {
-            return;
-        }
-        let next = step.state;
-        state = next;
-        agreed += 1;
-        at = end + 1;
+// A run under way: the state, the line that is read, how many records agree, and whether all did.
+struct Run {
+    state: State,
+    line: Line,
+    agreed: u64,
+    goes_on: bool,
+}
+
+// The run after the end of a line.
+fn end_line(run: Run) -> Run {
+    let state = run.state;
+    let line = run.line;
+    let step = replay::take(state, line.record());
+    let state = step.state;
+    let record = step.record;
+    Run {
+        state,
+        line: Line::empty(),
+        agreed: std::num::wrapping_add_u64(run.agreed, 1),
+        goes_on: goes_on(record.outcome(), run.agreed),
     }
-    say_agreed(agreed);
+}
+
+// The run after this part of the text, and no further than the first record that does not agree.
+fn read_text(run: Run, text: &[u8]) -> Run {
+    let mut state = run.state;
+    let mut line = run.line;
+    let mut agreed = run.agreed;
+    let mut i: usize = 0;
+    while i < text.len() {
+        if text[i] == b'\n' {
+            let ended = end_line(Run {
+                state,
+                line,
+                agreed,
+                goes_on: true,
+            });
+            if !ended.goes_on {
+                return ended;
+            }
+            state = ended.state;
+            agreed = ended.agreed;
+            line = Line::empty();
+        } else {
+            line = line.with_byte(text[i]);
+        }
+        i += 1;
+    }
+    Run {
+        state,
+        line,
+        agreed,
+        goes_on: true,
+    }
+}
+
+// The run after the text's last byte, where a last line may lack its newline.
+fn end_text(run: Run) -> Run {
+    let line = run.line;
+    if line.begun {
+        return end_line(run);
+    }
+    if line.place != 0 {
+        return end_line(run);
+    }
+    run
+}
+
+// The most parts in which the text is read: a run of that many has no end.
+const MAX_READS: u64 = 0x100_0000_0000;
+
+// The run after the whole text. One that is cut off at its last part goes on no further.
+fn read_input(run: Run, buffer: &mut [u8]) -> Run {
+    let mut run = run;
+    let mut reads: u64 = 0;
+    while reads < MAX_READS {
+        let n = io::read_full(STDIN_FILENO, buffer);
+        if n == 0 {
+            return end_text(run);
+        }
+        run = read_text(run, &buffer[..n]);
+        if !run.goes_on {
+            return run;
+        }
+        reads += 1;
+    }
+    io::write_all(STDOUT_FILENO, b"input too long\n");
+    run.goes_on = false;
+    run
 }
 
 fn main() {
-    let mut input = input_buffer();
-    let n = io::read_full(STDIN_FILENO, &mut input);
-    if n == INPUT_SIZE {
-        io::write_all(STDOUT_FILENO, b"input too long\n");
-        return;
+    let mut buffer = io::large_buffer();
+    let fresh = Run {
+        state: state::fresh(0),
+        line: Line::empty(),
+        agreed: 0,
+        goes_on: true,
+    };
+    let run = read_input(fresh, &mut buffer);
+    if run.goes_on {
+        say_agreed(run.agreed);
     }
-    replay(&input[..n]);
 }

@@ -1,36 +1,30 @@
-// The records of calls without state: b to e.
-use super::line::MAX_FIELDS;
-use super::state::Answer;
-use super::state::no_record;
+// The records of calls without state: b, c and e.
 use memory_access::Decoded;
 use memory_access::Fipa;
 use memory_access::MemoryAccess;
+use records::Record;
 use stage2_range::AlignedUp;
 
 // iss fipa far | number ipa bits wnr rt sse sf
-pub(crate) fn decode(fields: [u64; MAX_FIELDS], iss: u64, fipa: u64, far: u64) -> Answer {
+pub(crate) fn decode(record: Record, iss: u64, fipa: u64, far: u64) -> Record {
     if 0xFFFF_FFFF < iss {
-        return no_record(fields);
+        return record.no_record();
     }
     let decoded = MemoryAccess::decode(iss as u32, Fipa(fipa), far);
-    Answer {
-        fields,
-        first: decoded.number(),
-        words: decoded.values(),
-    }
+    record
+        .expect(decoded.number())
+        .expect_all(&decoded.values())
 }
 
 // iss value | number value
-pub(crate) fn extend(fields: [u64; MAX_FIELDS], iss: u64, value: u64) -> Answer {
+pub(crate) fn extend(record: Record, iss: u64, value: u64) -> Record {
     if 0xFFFF_FFFF < iss {
-        return no_record(fields);
+        return record.no_record();
     }
     let decoded = MemoryAccess::decode(iss as u32, Fipa(0), 0);
-    Answer {
-        fields,
-        first: decoded.number(),
-        words: [extended(decoded, value), 0, 0, 0, 0, 0],
-    }
+    record
+        .expect(decoded.number())
+        .expect(extended(decoded, value))
 }
 
 // What the load puts into its register, 0 where the syndrome describes none.
@@ -41,11 +35,7 @@ fn extended(decoded: Decoded, value: u64) -> u64 {
     }
 }
 
-// number value
-pub(crate) fn aligned(fields: [u64; MAX_FIELDS], aligned: AlignedUp) -> Answer {
-    Answer {
-        fields,
-        first: aligned.number(),
-        words: [aligned.value(), 0, 0, 0, 0, 0],
-    }
+// address | number value
+pub(crate) fn aligned(record: Record, aligned: AlignedUp) -> Record {
+    record.expect(aligned.number()).expect(aligned.value())
 }

@@ -1,0 +1,3 @@
+-- What the contracts of `records` cite.
+pub mod Lines
+pub mod Records
