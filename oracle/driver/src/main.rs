@@ -20,15 +20,17 @@ use std::process::ExitCode;
 use std::time::Instant;
 use tally::Tally;
 
-const USAGE: &str = "oracle compare SEED LISTS | oracle facts | oracle sums | oracle record";
+const USAGE: &str =
+    "oracle compare SEED LISTS | oracle records SEED LISTS | oracle facts | oracle sums | oracle record";
 
 fn main() -> ExitCode {
     let arguments: Vec<String> = std::env::args().skip(1).collect();
     let arguments: Vec<&str> = arguments.iter().map(String::as_str).collect();
     compare::note_panics();
     match arguments[..] {
-        ["compare", seed, lists] => match (seed.parse(), lists.parse()) {
-            (Ok(seed), Ok(lists)) => compare_lists(seed, lists),
+        [what @ ("compare" | "records"), seed, lists] => match (what, seed.parse(), lists.parse()) {
+            ("compare", Ok(seed), Ok(lists)) => compare_lists(seed, lists),
+            ("records", Ok(seed), Ok(lists)) => write_records(seed, lists),
             _ => usage(),
         },
         ["facts"] => print_text(&facts::text()),
@@ -46,6 +48,20 @@ fn usage() -> ExitCode {
 fn print_text(text: &str) -> ExitCode {
     print!("{text}");
     ExitCode::SUCCESS
+}
+
+/// Writes records of lists, and on standard error how many they are. Whoever reads them may stop before the end.
+fn write_records(seed: u64, lists: u64) -> ExitCode {
+    match record::write(seed, lists) {
+        Ok(count) => {
+            eprint!("{count}");
+            ExitCode::SUCCESS
+        }
+        Err(error) => {
+            eprintln!("oracle: {error}");
+            ExitCode::FAILURE
+        }
+    }
 }
 
 /// Both sides take lists until they differ; prints how often each answer was met, and the first difference.

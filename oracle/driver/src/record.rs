@@ -2,14 +2,16 @@
 //!
 //! A record is a line of lower-case hexadecimal numbers: its code, the arguments, the answer. A list begins with the
 //! record of its fresh states and ends with those of the state that it leads to. Calls at which RITM is not asked are
-//! left out, and so is `read_gpr`, which has no record.
+//! left out. Two calls have a lent form with a code of its own: a search is recorded in both, a register's write by
+//! turns, since it could not be seen a second time.
 
 use crate::call::{Call, List};
 use crate::generate;
 use crate::mirror;
 use crate::ritm_rust::RitmRust;
 use std::collections::BTreeSet;
-use std::fmt::Write;
+use std::fmt::{self, Write as _};
+use std::io::{self, Write as _};
 
 /// The lists that are recorded.
 const SEED: u64 = 2026;
@@ -21,6 +23,8 @@ const COUNTER: u64 = 0x10;
 const RANGE: u64 = 0x11;
 const REGION: u64 = 0x12;
 const COUNTS: u64 = 0x13;
+const FIND_LENT: u64 = 0x15;
+const WRITE_GPR_LENT: u64 = 0x16;
 
 /// The code of a call's record, and how many result words its answer has after the number, if it has a number.
 struct Form {
@@ -29,7 +33,7 @@ struct Form {
     words: usize,
 }
 
-fn form(call: &Call) -> Option<Form> {
+fn form(call: &Call) -> Form {
     let (code, number, words) = match call {
         Call::Allow { .. } => (0x1, true, 0),
         Call::Handle { .. } => (0x2, true, 0),
@@ -45,9 +49,35 @@ fn form(call: &Call) -> Option<Form> {
         Call::Extend { .. } => (0xC, true, 1),
         Call::AlignDown { .. } => (0xD, false, 1),
         Call::AlignUp { .. } => (0xE, true, 1),
-        Call::ReadGpr { .. } => return None,
+        Call::ReadGpr { .. } => (0x14, true, 1),
     };
-    Some(Form { code, number, words })
+    Form { code, number, words }
+}
+
+/// The codes under which a call is recorded, the `turn`th of its list.
+fn codes(call: &Call, turn: usize) -> Vec<u64> {
+    match call {
+        Call::Find { .. } => vec![form(call).code, FIND_LENT],
+        Call::WriteGpr { .. } if turn % 2 == 1 => vec![WRITE_GPR_LENT],
+        _ => vec![form(call).code],
+    }
+}
+
+/// How many records there are, and how many of them are of each call and form.
+#[derive(Default)]
+pub struct Count {
+    records: u64,
+    by_code: [u64; WRITE_GPR_LENT as usize + 1],
+}
+
+impl fmt::Display for Count {
+    fn fmt(&self, f: &mut fmt::Formatter) -> fmt::Result {
+        writeln!(f, "{} records; of each code:", self.records)?;
+        for (code, times) in self.by_code.iter().enumerate() {
+            writeln!(f, "  {code:2x} {times}")?;
+        }
+        Ok(())
+    }
 }
 
 /// The text of all recorded lists.
@@ -59,13 +89,32 @@ pub fn text() -> String {
     text
 }
 
+/// Writes the records of lists from a seed to standard output, list by list.
+pub fn write(seed: u64, lists: u64) -> io::Result<Count> {
+    let mut out = io::BufWriter::new(io::stdout().lock());
+    let mut count = Count::default();
+    let mut text = String::new();
+    for number in 0..lists {
+        text.clear();
+        record(&generate::list(seed, number), &mut text);
+        for line in text.lines() {
+            let code = line.split(' ').next().and_then(|code| usize::from_str_radix(code, 16).ok());
+            count.records += 1;
+            count.by_code[code.expect("a record begins with its code")] += 1;
+        }
+        out.write_all(text.as_bytes())?;
+    }
+    out.flush()?;
+    Ok(count)
+}
+
 /// Adds the records of a list.
 fn record(list: &List, text: &mut String) {
     let mut rust = RitmRust::fresh(list.counter);
     let mut cores = BTreeSet::new();
     line(text, &[FRESH, list.counter]);
-    for call in &list.calls {
-        let Some(form) = form(call) else { continue };
+    for (turn, call) in list.calls.iter().enumerate() {
+        let form = form(call);
         if rust.outside(call).is_some() {
             continue;
         }
@@ -75,7 +124,9 @@ fn record(list: &List, text: &mut String) {
             Call::Find { ipa } => &rust.oracle.find(ipa).map_or([0; 3], |(base, offset)| [1, base, offset])[..],
             _ => &answer.words()[..form.words],
         };
-        line(text, &[&[form.code], &call.arguments()[..], number, words].concat());
+        for code in codes(call, turn) {
+            line(text, &[&[code], &call.arguments()[..], number, words].concat());
+        }
         cores.extend(call.core());
     }
     record_state(&rust, &cores, text);
@@ -122,13 +173,13 @@ mod tests {
         Some(match (fields[0], arguments) {
             (0x1, &[base, size, attributes, ..]) => Call::Allow { base, size, attributes },
             (0x2, &[base, size, read, write, ..]) => Call::Handle { base, size, read, write },
-            (0x3, &[ipa, ..]) => Call::Find { ipa },
+            (0x3 | FIND_LENT, &[ipa, ..]) => Call::Find { ipa },
             (0x4, &[core, ref registers @ ..]) => Call::Save { core, registers: words(registers) },
             (0x5, &[core, esr, fipa, far, vbar, ..]) => Call::Trap { core, trap: Trap { esr, fipa, far, vbar } },
             (0x6, &[core, kind, ref values @ ..]) => {
                 Call::Reply { core, kind, values: words(values), error: (values[18] as u32).cast_signed() }
             }
-            (0x7, &[core, index, value, ..]) => Call::WriteGpr { core, index, value },
+            (0x7 | WRITE_GPR_LENT, &[core, index, value, ..]) => Call::WriteGpr { core, index, value },
             (0x8, &[key, entry_point, context_id, ..]) => Call::Insert { key, entry_point, context_id },
             (0x9, &[key, ..]) => Call::LookUp { key },
             (0xA, &[key, ..]) => Call::Remove { key },
@@ -136,13 +187,14 @@ mod tests {
             (0xC, &[iss, value, ..]) => Call::Extend { iss: iss as u32, value },
             (0xD, &[address, ..]) => Call::AlignDown { address },
             (0xE, &[address, ..]) => Call::AlignUp { address },
+            (0x14, &[core, index, ..]) => Call::ReadGpr { core, index },
             _ => return None,
         })
     }
 
     /// What the port answers to a record's call, in the form of the record.
     fn answer(port: &mut Port, call: &Call) -> (Answer, Vec<u64>) {
-        let form = form(call).expect("a recorded call has a form");
+        let form = form(call);
         let answer = port.take(call);
         let mut results = answer.words()[..form.words].to_vec();
         if let (Call::Find { .. }, 1) = (call, answer.words()[0]) {
