@@ -1,0 +1,3 @@
+-- The bench table, and the states that its rows start from.
+pub mod States
+pub mod BenchTable
