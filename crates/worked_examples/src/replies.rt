@@ -26,6 +26,7 @@ fn found_core(cores: [Core; 8]) {
     let x = core.x;
     number(x[0]);
     number(x[1]);
+    number(x[2]);
     number(x[3]);
     number(x[4]);
     number(core.elr);
@@ -65,7 +66,7 @@ fn save(core: u64) {
 }
 
 pub(crate) fn rows() {
-    columns(b"reply: ESR x0..x30 kind | answer x0 x1 x3 x4 ELR\n");
+    columns(b"reply: ESR x0..x30 kind | answer x0 x1 x2 x3 x4 ELR\n");
     // Bench: one value, from the firmware.
     reply(ESR_SMC, 0xC400_0003, 1);
     // The firmware gives no four values; the platform does; its error, after an SMC and after an HVC; no kind 5.
@@ -74,10 +75,10 @@ pub(crate) fn rows() {
     reply(ESR_SMC, 0, 4);
     reply(ESR_HVC, 0, 4);
     reply(ESR_HVC, 0, 5);
-    columns(b"reply to a core that waits for none: core | answer x0 x1 x3 x4 ELR\n");
+    columns(b"reply to a core that waits for none: core | answer x0 x1 x2 x3 x4 ELR\n");
     reply_unasked(0);
     reply_unasked(8);
-    columns(b"save: core | answer x0 x1 x3 x4 ELR\n");
+    columns(b"save: core | answer x0 x1 x2 x3 x4 ELR\n");
     save(0);
     save(8);
 }
