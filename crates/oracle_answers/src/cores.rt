@@ -1,76 +1,107 @@
-// The records of the cores: 4 to 7, 14 and 16, and their state, f.
+// The records of the cores: 4 to 7, 14 and 16, and their state, f and 10.
 ghost use Prim.Native.Nat.{_^_, _<_};
-use super::state::State;
-use super::state::Step;
 use data_abort::TrapRegisters;
 use exceptions::Core;
 use exceptions::GprWritten;
 use forwarded_call::HvcReply;
 use hypervisor::CoresStep;
+use hypervisor::Trapped;
 use memory_access::Fipa;
 use records::MAX_FIELDS;
 use records::Record;
+use stage2::Policy;
+
+// The record with its answer compared, and the cores and the counter then.
+pub struct CoresJudged {
+    pub record: Record,
+    pub cores: [Core; 8],
+    pub counter: u64,
+}
+
+// Takes the record's call; a record of something else passes as it is.
+pub(crate) fn take(policy: Policy, cores: [Core; 8], counter: u64, record: Record) -> CoresJudged {
+    let fields = record.fields;
+    let code = fields[0];
+    match code {
+        0 => CoresJudged {
+            record,
+            cores: hypervisor::fresh_cores(),
+            counter: fields[1],
+        },
+        4 => stepped(record, counter, save(cores, fields)),
+        5 => trapped(record, trap(policy, cores, counter, fields)),
+        6 => reply(cores, counter, record, fields),
+        7 => write_gpr(cores, counter, record, fields, false),
+        0x16 => write_gpr(cores, counter, record, fields, true),
+        _ => CoresJudged {
+            record: read(cores, counter, record, fields),
+            cores,
+            counter,
+        },
+    }
+}
+
+// The records that leave the cores as they are.
+fn read(cores: [Core; 8], counter: u64, record: Record, fields: [u64; MAX_FIELDS]) -> Record {
+    match fields[0] {
+        0xF => core_state(cores, record, fields),
+        0x10 => record.expect(counter),
+        0x14 => read_gpr(cores, record, fields),
+        _ => record,
+    }
+}
 
 // core x0..x30 elr spsr | number
-pub(crate) fn save(state: State, record: Record, fields: [u64; MAX_FIELDS]) -> Step {
-    let cores = state.cores;
+fn save(cores: [Core; 8], fields: [u64; MAX_FIELDS]) -> CoresStep {
     let x = records::registers(fields);
-    stepped(
-        state,
-        record,
-        hypervisor::save(cores, fields[1], x, fields[33], fields[34]),
-    )
+    hypervisor::save(cores, fields[1], x, fields[33], fields[34])
 }
 
 // What a save or a reply comes to.
-fn stepped(state: State, record: Record, step: CoresStep) -> Step {
+fn stepped(record: Record, counter: u64, step: CoresStep) -> CoresJudged {
     let answer = step.answer;
     let cores = step.cores;
-    let mut next = state;
-    next.cores = cores;
-    Step {
+    CoresJudged {
         record: record.expect(answer.number()),
-        state: next,
+        cores,
+        counter,
     }
 }
 
 // core esr fipa far vbar | number kind v0..v17
-pub(crate) fn trap(state: State, record: Record, fields: [u64; MAX_FIELDS]) -> Step {
+fn trap(policy: Policy, cores: [Core; 8], counter: u64, fields: [u64; MAX_FIELDS]) -> Trapped {
     let registers = TrapRegisters {
         esr: fields[2],
         fipa: Fipa(fields[3]),
         far: fields[4],
         vbar: fields[5],
     };
-    let policy = state.policy;
-    let cores = state.cores;
-    let map = state.map;
-    let step = hypervisor::trap(policy, cores, state.counter, fields[1], registers);
+    hypervisor::trap(policy, cores, counter, fields[1], registers)
+}
+
+// What a trap comes to.
+fn trapped(record: Record, step: Trapped) -> CoresJudged {
     let answer = step.answer;
     let values = step.values;
-    let policy = step.policy;
     let cores = step.cores;
-    Step {
+    CoresJudged {
         record: record
             .expect(answer.number())
             .expect(answer.kind())
             .expect_values(values),
-        state: State {
-            policy,
-            cores,
-            counter: step.counter,
-            map,
-        },
+        cores,
+        counter: step.counter,
     }
 }
 
 // core kind v0..v17 error | number
-pub(crate) fn reply(state: State, record: Record, fields: [u64; MAX_FIELDS]) -> Step {
+fn reply(cores: [Core; 8], counter: u64, record: Record, fields: [u64; MAX_FIELDS]) -> CoresJudged {
     let error = fields[21];
     if 0xFFFF_FFFF < error {
-        return Step {
+        return CoresJudged {
             record: record.no_record(),
-            state,
+            cores,
+            counter,
         };
     }
     let reply = HvcReply {
@@ -78,8 +109,7 @@ pub(crate) fn reply(state: State, record: Record, fields: [u64; MAX_FIELDS]) -> 
         values: records::values(fields),
         error: signed(error),
     };
-    let cores = state.cores;
-    stepped(state, record, hypervisor::reply(cores, fields[1], reply))
+    stepped(record, counter, hypervisor::reply(cores, fields[1], reply))
 }
 
 // The number whose 32-bit two's complement word this is.
@@ -96,28 +126,31 @@ fn signed(word: u64) -> i32
 const LAST_CORE: u64 = 7;
 
 // core index value | number
-pub(crate) fn write_gpr(
-    state: State,
+fn write_gpr(
+    cores: [Core; 8],
+    counter: u64,
     record: Record,
     fields: [u64; MAX_FIELDS],
     lent: bool,
-) -> Step {
+) -> CoresJudged {
     let at = fields[1];
     if LAST_CORE < at {
-        return Step {
+        return CoresJudged {
             record: record.no_record(),
-            state,
+            cores,
+            counter,
         };
     }
-    let core = state.cores[at as usize];
+    let core = cores[at as usize];
     let written = written(core, fields[2] as usize, fields[3], lent);
     let answer = written.answer;
     let after = written.core;
-    let mut next = state;
-    next.cores[at as usize] = after;
-    Step {
+    let mut next = cores;
+    next[at as usize] = after;
+    CoresJudged {
         record: record.expect(answer.number()),
-        state: next,
+        cores: next,
+        counter,
     }
 }
 
@@ -131,16 +164,18 @@ fn written(core: Core, index: usize, value: u64, lent: bool) -> GprWritten {
 }
 
 // core index | number value
-pub(crate) fn read_gpr(record: Record, cores: [Core; 8], core: u64, index: u64) -> Record {
+fn read_gpr(cores: [Core; 8], record: Record, fields: [u64; MAX_FIELDS]) -> Record {
+    let core = fields[1];
     if LAST_CORE < core {
         return record.no_record();
     }
-    let read = cores[core as usize].read_gpr(index as usize);
+    let read = cores[core as usize].read_gpr(fields[2] as usize);
     record.expect(read.number()).expect(read.value())
 }
 
 // core | x0..x30 elr spsr elr_el1 spsr_el1 far_el1 esr_el1
-pub(crate) fn core_state(record: Record, cores: [Core; 8], core: u64) -> Record {
+fn core_state(cores: [Core; 8], record: Record, fields: [u64; MAX_FIELDS]) -> Record {
+    let core = fields[1];
     if LAST_CORE < core {
         return record.no_record();
     }

@@ -2,16 +2,16 @@
 mod cores;
 mod entries;
 mod policy;
-mod replay;
-mod state;
 mod values;
 
+use exceptions::Core;
 use libc::STDIN_FILENO;
 use libc::STDOUT_FILENO;
 use records::Difference;
 use records::Line;
 use records::Outcome;
-use state::State;
+use simple_map::SimpleMap;
+use stage2::Policy;
 
 // The line that says how many records agree.
 fn say_agreed(agreed: u64) {
@@ -53,70 +53,72 @@ fn goes_on(outcome: Outcome, agreed: u64) -> bool {
     }
 }
 
-// A run under way: the state, the line that is read, how many records agree, and whether all did.
+// A run under way: the library's state, the line that is read, how many records agree, and whether all did.
 struct Run {
-    state: State,
+    policy: Policy,
+    cores: [Core; 8],
+    counter: u64,
+    map: SimpleMap,
     line: Line,
     agreed: u64,
     goes_on: bool,
 }
 
-// The run after the end of a line.
-fn end_line(run: Run) -> Run {
-    let state = run.state;
-    let line = run.line;
-    let step = replay::take(state, line.record());
-    let state = step.state;
-    let record = step.record;
+// A fresh state, and nothing read.
+fn start() -> Run {
     Run {
-        state,
+        policy: Policy::new(),
+        cores: hypervisor::fresh_cores(),
+        counter: 0,
+        map: SimpleMap::new(),
+        line: Line::empty(),
+        agreed: 0,
+        goes_on: true,
+    }
+}
+
+// The run after the end of a line. Each part of the state takes the record, and passes it on if it is about another.
+fn end_line(run: Run) -> Run {
+    let line = run.line;
+    let policy = run.policy;
+    let cores = run.cores;
+    let map = run.map;
+    let of_policy = policy::take(policy, line.record());
+    let policy = of_policy.policy;
+    let record = of_policy.record;
+    let of_cores = cores::take(policy, cores, run.counter, record);
+    let cores = of_cores.cores;
+    let record = of_cores.record;
+    let of_map = entries::take(map, record);
+    let map = of_map.map;
+    let record = of_map.record;
+    Run {
+        policy,
+        cores,
+        counter: of_cores.counter,
+        map,
         line: Line::empty(),
         agreed: std::num::wrapping_add_u64(run.agreed, 1),
-        goes_on: goes_on(record.outcome(), run.agreed),
+        goes_on: goes_on(values::take(record).outcome(), run.agreed),
     }
 }
 
 // The run after this part of the text, and no further than the first record that does not agree.
 fn read_text(run: Run, text: &[u8]) -> Run {
-    let mut state = run.state;
-    let mut line = run.line;
-    let mut agreed = run.agreed;
+    let mut run = run;
     let mut i: usize = 0;
     while i < text.len() {
         if text[i] == b'\n' {
-            let ended = end_line(Run {
-                state,
-                line,
-                agreed,
-                goes_on: true,
-            });
-            if !ended.goes_on {
-                return ended;
+            run = end_line(run);
+            if !run.goes_on {
+                return run;
             }
-            state = ended.state;
-            agreed = ended.agreed;
-            line = Line::empty();
         } else {
-            line = line.with_byte(text[i]);
+            let line = run.line;
+            let next = line.with_byte(text[i]);
+            run.line = next;
         }
         i += 1;
-    }
-    Run {
-        state,
-        line,
-        agreed,
-        goes_on: true,
-    }
-}
-
-// The run after the text's last byte, where a last line may lack its newline.
-fn end_text(run: Run) -> Run {
-    let line = run.line;
-    if line.begun {
-        return end_line(run);
-    }
-    if line.place != 0 {
-        return end_line(run);
     }
     run
 }
@@ -124,36 +126,21 @@ fn end_text(run: Run) -> Run {
 // The most parts in which the text is read: a run of that many has no end.
 const MAX_READS: u64 = 0x100_0000_0000;
 
-// The run after the whole text. One that is cut off at its last part goes on no further.
-fn read_input(run: Run, buffer: &mut [u8]) -> Run {
-    let mut run = run;
+fn main() {
+    let mut buffer = io::large_buffer();
+    let mut run = start();
     let mut reads: u64 = 0;
     while reads < MAX_READS {
-        let n = io::read_full(STDIN_FILENO, buffer);
+        let n = io::read_full(STDIN_FILENO, &mut buffer);
         if n == 0 {
-            return end_text(run);
+            say_agreed(run.agreed);
+            return;
         }
         run = read_text(run, &buffer[..n]);
         if !run.goes_on {
-            return run;
+            return;
         }
         reads += 1;
     }
     io::write_all(STDOUT_FILENO, b"input too long\n");
-    run.goes_on = false;
-    run
-}
-
-fn main() {
-    let mut buffer = io::large_buffer();
-    let fresh = Run {
-        state: state::fresh(0),
-        line: Line::empty(),
-        agreed: 0,
-        goes_on: true,
-    };
-    let run = read_input(fresh, &mut buffer);
-    if run.goes_on {
-        say_agreed(run.agreed);
-    }
 }

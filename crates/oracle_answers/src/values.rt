@@ -1,12 +1,26 @@
-// The records of calls without state: b, c and e.
+// The records of calls without state: b to e.
 use memory_access::Decoded;
 use memory_access::Fipa;
 use memory_access::MemoryAccess;
 use records::Record;
 use stage2_range::AlignedUp;
 
+// Takes the record's call; a record of something else passes as it is.
+pub(crate) fn take(record: Record) -> Record {
+    let fields = record.fields;
+    let a = fields[1];
+    let b = fields[2];
+    match fields[0] {
+        0xB => decode(record, a, b, fields[3]),
+        0xC => extend(record, a, b),
+        0xD => record.expect(stage2_range::align_down_to_page(a)),
+        0xE => aligned(record, stage2_range::align_up_to_page(a)),
+        _ => record,
+    }
+}
+
 // iss fipa far | number ipa bits wnr rt sse sf
-pub(crate) fn decode(record: Record, iss: u64, fipa: u64, far: u64) -> Record {
+fn decode(record: Record, iss: u64, fipa: u64, far: u64) -> Record {
     if 0xFFFF_FFFF < iss {
         return record.no_record();
     }
@@ -17,7 +31,7 @@ pub(crate) fn decode(record: Record, iss: u64, fipa: u64, far: u64) -> Record {
 }
 
 // iss value | number value
-pub(crate) fn extend(record: Record, iss: u64, value: u64) -> Record {
+fn extend(record: Record, iss: u64, value: u64) -> Record {
     if 0xFFFF_FFFF < iss {
         return record.no_record();
     }
@@ -36,6 +50,6 @@ fn extended(decoded: Decoded, value: u64) -> u64 {
 }
 
 // address | number value
-pub(crate) fn aligned(record: Record, aligned: AlignedUp) -> Record {
+fn aligned(record: Record, aligned: AlignedUp) -> Record {
     record.expect(aligned.number()).expect(aligned.value())
 }

@@ -5,10 +5,10 @@ use Rattle.oracle_answers.proofs.read_text.Statement.{statement}
 use Rattle.oracle_answers.proofs.read_text.Tie as tie
 
 abbrev Inv-loop : tie.InvT-loop
-Inv-loop text state₀ line₀ agreed₀ i₀ state line agreed i = i ≤ length text
+Inv-loop text run₀ i₀ run i = i ≤ length text
 
 abbrev μ-loop : tie.MeasureT-loop
-μ-loop text state₀ line₀ agreed₀ i₀ state line agreed i = length text - i
+μ-loop text run₀ i₀ run i = length text - i
 
 loop-holds : tie.Need-loop-holds Inv-loop μ-loop
 loop-holds c = search needs
@@ -21,9 +21,6 @@ end-line-requires c κs = search needs
 
 returns : tie.Need-returns Inv-loop μ-loop
 returns c = search needs
-
-empty-requires : tie.Need-empty-requires Inv-loop μ-loop
-empty-requires c κs = search needs
 
 shared-slice-read-with-byte : tie.Need-shared-slice-read-with-byte Inv-loop μ-loop
 shared-slice-read-with-byte c = search needs
@@ -53,7 +50,6 @@ read-text-spec =
     shared-slice-read-if1
     end-line-requires
     returns
-    empty-requires
     shared-slice-read-with-byte
     with-byte-requires
     add-i
