@@ -7,8 +7,6 @@ mod policies;
 mod print;
 mod ranges;
 mod registers;
-mod replies;
-mod traps;
 
 fn main() {
     accesses::rows();
@@ -17,6 +15,4 @@ fn main() {
     maps::rows();
     registers::rows();
     page::rows();
-    traps::rows();
-    replies::rows();
 }
