@@ -1,5 +1,5 @@
-// Worked values: each row prints the numbers that it gives to the library and, a line each, what the library answers. The file `stdout` has
-// what the lines must be. The rows marked "bench" are those of document 01's bench table.
+// Worked values in tables: a row is a line with the numbers that are given to the library and, after a bar, what it answers. The file
+// `stdout` has what the lines must be. Rows after a comment "Bench" are of document 01's bench table.
 mod accesses;
 mod maps;
 mod page;
