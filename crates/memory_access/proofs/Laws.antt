@@ -91,7 +91,7 @@ top-bit w v l =
     ∙ ap (leb (2 ^ (w - 1))) (sym parts)
 
 -- the two's complement of a number of `w` bits
-complement : (w n : ℕ) → 1 ≤ w → n < 2 ^ w → twosComplement w n ≡ cond (leb (2 ^ (w - 1)) n) (negsuc (2 ^ w - suc n)) (pos n)
+pub complement : (w n : ℕ) → 1 ≤ w → n < 2 ^ w → twosComplement w n ≡ cond (leb (2 ^ (w - 1)) n) (negsuc (2 ^ w - suc n)) (pos n)
 unfolding twosComplement lowBits
 complement w n l h = rw (top-bit w n l, mod-eq-of-lt h)
 

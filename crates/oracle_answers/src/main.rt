@@ -1,17 +1,12 @@
 // Replays answers of RITM's Rust, read from standard input, through the library, and says how many agree and the first that does not.
-mod cores;
-mod entries;
-mod policy;
-mod values;
+mod state;
 
-use exceptions::Core;
 use libc::STDIN_FILENO;
 use libc::STDOUT_FILENO;
 use records::Difference;
 use records::Line;
 use records::Outcome;
-use simple_map::SimpleMap;
-use stage2::Policy;
+use state::State;
 
 // The line that says how many records agree.
 fn say_agreed(agreed: u64) {
@@ -55,10 +50,7 @@ fn goes_on(outcome: Outcome, agreed: u64) -> bool {
 
 // A run under way: the library's state, the line that is read, how many records agree, and whether all did.
 struct Run {
-    policy: Policy,
-    cores: [Core; 8],
-    counter: u64,
-    map: SimpleMap,
+    state: State,
     line: Line,
     agreed: u64,
     goes_on: bool,
@@ -67,39 +59,26 @@ struct Run {
 // A fresh state, and nothing read.
 fn start() -> Run {
     Run {
-        policy: Policy::new(),
-        cores: hypervisor::fresh_cores(),
-        counter: 0,
-        map: SimpleMap::new(),
+        state: state::fresh(),
         line: Line::empty(),
         agreed: 0,
         goes_on: true,
     }
 }
 
-// The run after the end of a line. Each part of the state takes the record, and passes it on if it is about another.
+// The run after the end of a line.
 fn end_line(run: Run) -> Run {
+    let state = run.state;
     let line = run.line;
-    let policy = run.policy;
-    let cores = run.cores;
-    let map = run.map;
-    let of_policy = policy::take(policy, line.record());
-    let policy = of_policy.policy;
-    let record = of_policy.record;
-    let of_cores = cores::take(policy, cores, run.counter, record);
-    let cores = of_cores.cores;
-    let record = of_cores.record;
-    let of_map = entries::take(map, record);
-    let map = of_map.map;
-    let record = of_map.record;
+    let record = line.record();
+    let taken = state::take(state, record, record.call());
+    let state = taken.state;
+    let compared = taken.compared;
     Run {
-        policy,
-        cores,
-        counter: of_cores.counter,
-        map,
+        state,
         line: Line::empty(),
         agreed: std::num::wrapping_add_u64(run.agreed, 1),
-        goes_on: goes_on(values::take(record).outcome(), run.agreed),
+        goes_on: goes_on(compared.outcome(), run.agreed),
     }
 }
 

@@ -1,12 +1,13 @@
 -- Records, and the comparison of their answers. Assumes nothing.
 use Prim.Native.Nat.{ℕ, _+_}
 use mathlib.Core.Bool.{cond}
-use mathlib.Core.List.{List, [], _∷_}
+use mathlib.Core.List.{List, [], _∷_, foldl}
 use lib.Dec.{eqb, ltb}
 use lib.ListN.{getD}
 use Rattle.records.specs.declared.Line.{Line}
 use Rattle.records.specs.declared.Difference.{Difference}
 use Rattle.records.specs.declared.Record.{Record}
+use Rattle.records.specs.declared.Call.{Call}
 use Rattle.records.specs.declared.Outcome.{Outcome}
 use Rattle.records.specs.declared.Outcome.the-variants.{Agrees, Differs, NoRecord}
 
@@ -34,6 +35,17 @@ recordOf line = record {
   difference = record { field = 0; found = 0; recorded = 0 };
 }
 
+-- a record's call: its code, and the five fields after it
+abbrev pub callOf : Record → Call
+callOf r = record {
+  code = getD (r .fields) 0 0;
+  a = getD (r .fields) 1 0;
+  b = getD (r .fields) 2 0;
+  c = getD (r .fields) 3 0;
+  d = getD (r .fields) 4 0;
+  e = getD (r .fields) 5 0;
+}
+
 -- an answer that never ends where a line does
 abbrev pub noRecord : Record → Record
 noRecord r = record { fields = r .fields; count = r .count; next = 40; difference = r .difference }
@@ -56,6 +68,11 @@ expected r word =
       difference = firstDifference (r .difference) (r .next) word (getD (r .fields) (r .next) 0);
     })
     (noRecord r)
+
+-- an answer that is the words of one of some elements, by its place; a line that names a place that there is not is no record
+abbrev pub placeCompared : {A : Type 0} → ℕ → List A → A → (A → List ℕ) → Record → ℕ → Record
+placeCompared places elements none words r at =
+    cond (ltb at places) (foldl expected r (words (getD elements at none))) (noRecord r)
 
 -- a record is one whose answer ends where its line does; it agrees if no word differed
 unfoldable pub outcomeOf : Record → Outcome

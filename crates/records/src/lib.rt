@@ -5,7 +5,7 @@ ghost use mathlib.Core.List.{foldl};
 ghost use Prim.Native.Nat.{_<_};
 ghost use lib.ListN.{length, take, drop};
 ghost use Rattle.records.specs.Lines.{digitOf, emptyLine, malformed, withSpace, withDigit, withByte};
-ghost use Rattle.records.specs.Records.{answerPlace, fieldCount, recordOf, noRecord, firstDifference, expected, outcomeOf};
+ghost use Rattle.records.specs.Records.{answerPlace, fieldCount, recordOf, callOf, noRecord, firstDifference, expected, outcomeOf};
 
 // The most fields that a record has: a core's.
 pub const MAX_FIELDS: usize = 39;
@@ -31,6 +31,16 @@ pub struct Record {
     pub count: usize,
     pub next: usize,
     pub difference: Difference,
+}
+
+// A record's code and the five fields after it: its call's arguments, as far as it has them.
+pub struct Call {
+    pub code: u64,
+    pub a: u64,
+    pub b: u64,
+    pub c: u64,
+    pub d: u64,
+    pub e: u64,
 }
 
 // What comes of a record.
@@ -193,6 +203,21 @@ fn answer_place(code: u64) -> usize
 }
 
 impl Record {
+    // The call that the record is of.
+    pub fn call(self) -> Call
+        ensures { λ r. ⌜ r ≡ callOf self ⌝ }
+    {
+        let fields = self.fields;
+        Call {
+            code: fields[0],
+            a: fields[1],
+            b: fields[2],
+            c: fields[3],
+            d: fields[4],
+            e: fields[5],
+        }
+    }
+
     // The record with the next word of its answer compared.
     pub fn expect(self, word: u64) -> Self
         ensures { λ r. ⌜ r ≡ expected self word ⌝ }

@@ -1,0 +1,68 @@
+use native.Mathlib.Omega.{arith}
+use borrow.Author.Tests.{lt-ltb, le-ltb}
+use borrow.Author.Needs.{needs}
+use Rattle.recorded_calls.proofs.policy.region_at.Statement.{statement}
+use Rattle.recorded_calls.proofs.policy.region_at.Tie as tie
+
+no-record-requires : tie.Need-no-record-requires
+no-record-requires c κs = search needs
+
+returns : tie.Need-returns
+returns c = rw (c .no-record .ensures, le-ltb (c .before .before .args .place) 16 (omega arith))
+
+mul-region : tie.Need-mul-region
+mul-region c = search needs
+
+element-copy-out-region : tie.Need-element-copy-out-region
+element-copy-out-region c = search needs
+
+expect-requires : tie.Need-expect-requires
+expect-requires c κs = search needs
+
+expect-requires-2 : tie.Need-expect-requires-2
+expect-requires-2 c κs = search needs
+
+expect-requires-3 : tie.Need-expect-requires-3
+expect-requires-3 c κs = search needs
+
+handler-number-requires : tie.Need-handler-number-requires
+handler-number-requires c κs = search needs
+
+expect-requires-4 : tie.Need-expect-requires-4
+expect-requires-4 c κs = search needs
+
+handler-number-requires-2 : tie.Need-handler-number-requires-2
+handler-number-requires-2 c κs = search needs
+
+expect-requires-5 : tie.Need-expect-requires-5
+expect-requires-5 c κs = search needs
+
+returns-2 : tie.Need-returns-2
+returns-2 c =
+    rw (
+      c .expect5 .ensures,
+      c .before .handler-number2 .ensures,
+      c .before .before .expect4 .ensures,
+      c .before .before .before .handler-number .ensures,
+      c .before .before .before .before .expect3 .ensures,
+      c .before .before .before .before .before .expect2 .ensures,
+      c .before .before .before .before .before .before .expect .ensures,
+      lt-ltb (c .before .before .before .before .before .before .before .before .before .before .args .place) 16 (omega arith),
+    )
+
+pub region-at-spec : {M : Type 1} → statement M
+region-at-spec =
+    tie.close
+    (tie.spec
+    no-record-requires
+    returns
+    mul-region
+    element-copy-out-region
+    expect-requires
+    expect-requires-2
+    expect-requires-3
+    handler-number-requires
+    expect-requires-4
+    handler-number-requires-2
+    expect-requires-5
+    returns-2)

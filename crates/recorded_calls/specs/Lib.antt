@@ -1,0 +1,4 @@
+-- What the contracts of `recorded_calls` cite.
+pub mod Maps
+pub mod Policies
+pub mod Values

@@ -1,0 +1,77 @@
+use mathlib.Core.List.{foldl-append}
+use mathlib.Core.Path.{sym}
+use lib.ListN.{getD}
+use Rattle.records.specs.Records.{expected}
+use Rattle.hypervisor.specs.Cores.{noCore}
+use native.Mathlib.Omega.{arith}
+use borrow.Author.Tests.{lt-ltb, le-ltb}
+use borrow.Author.Needs.{needs}
+use Rattle.recorded_steps.proofs.core_state.Statement.{statement}
+use Rattle.recorded_steps.proofs.core_state.Tie as tie
+
+no-record-requires : tie.Need-no-record-requires
+no-record-requires c κs = search needs
+
+returns : tie.Need-returns
+returns c = rw (c .no-record .ensures, le-ltb (c .before .before .args .at) 8 (omega arith))
+
+mul-core : tie.Need-mul-core
+mul-core c = search needs
+
+array-copy-out-core : tie.Need-array-copy-out-core
+array-copy-out-core c = search needs
+
+expect-registers-requires : tie.Need-expect-registers-requires
+expect-registers-requires c κs = search needs
+
+expect-requires : tie.Need-expect-requires
+expect-requires c κs = search needs
+
+expect-requires-2 : tie.Need-expect-requires-2
+expect-requires-2 c κs = search needs
+
+expect-requires-3 : tie.Need-expect-requires-3
+expect-requires-3 c κs = search needs
+
+expect-requires-4 : tie.Need-expect-requires-4
+expect-requires-4 c κs = search needs
+
+expect-requires-5 : tie.Need-expect-requires-5
+expect-requires-5 c κs = search needs
+
+expect-requires-6 : tie.Need-expect-requires-6
+expect-requires-6 c κs = search needs
+
+returns-2 : tie.Need-returns-2
+unfolding noCore
+returns-2 c =
+    let asked = c .before .before .before .before .before .before .before .before .before .before .before .args in
+    let core = getD (asked .t1) (asked .at) noCore in
+    rw (
+      c .expect6 .ensures,
+      c .before .expect5 .ensures,
+      c .before .before .expect4 .ensures,
+      c .before .before .before .expect3 .ensures,
+      c .before .before .before .before .expect2 .ensures,
+      c .before .before .before .before .before .expect .ensures,
+      c .before .before .before .before .before .before .expect-registers .ensures,
+      lt-ltb (asked .at) 8 (omega (arith, c .before .before .before .before .before .before .before .before .before .before .if1 .left)),
+    )
+    (sym (foldl-append expected (asked .recorded) (core .x) _))
+
+pub core-state-spec : {M : Type 1} → statement M
+core-state-spec =
+    tie.close
+    (tie.spec
+    no-record-requires
+    returns
+    mul-core
+    array-copy-out-core
+    expect-registers-requires
+    expect-requires
+    expect-requires-2
+    expect-requires-3
+    expect-requires-4
+    expect-requires-5
+    expect-requires-6
+    returns-2)

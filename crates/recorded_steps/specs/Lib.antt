@@ -1,0 +1,2 @@
+-- What the contracts of `recorded_steps` cite.
+pub mod Steps
