@@ -77,10 +77,7 @@ fn found(recorded: Record, lookup: Lookup) -> Record
     ensures { λ r. ⌜ r ≡ foldl expected recorded (lookupValues lookup) ⌝ }
 {
     match lookup {
-        Lookup::Value(value) => recorded
-            .expect(1)
-            .expect(value.entry_point)
-            .expect(value.context_id),
-        Lookup::Nothing => recorded.expect(0).expect(0).expect(0),
+        Lookup::Value(value) => recorded.expect_all(&[1, value.entry_point, value.context_id]),
+        Lookup::Nothing => recorded.expect_all(&[0, 0, 0]),
     }
 }

@@ -78,9 +78,9 @@ fn found(recorded: Record, found: RegionFound) -> Record
     match found {
         RegionFound::Match(m) => {
             let region = m.region;
-            recorded.expect(1).expect(region.base_ipa).expect(m.offset)
+            recorded.expect_all(&[1, region.base_ipa, m.offset])
         }
-        RegionFound::Nothing => recorded.expect(0).expect(0).expect(0),
+        RegionFound::Nothing => recorded.expect_all(&[0, 0, 0]),
     }
 }
 
@@ -94,11 +94,7 @@ fn allowed_at(recorded: Record, policy: Policy, place: u64) -> Record
         return recorded.no_record();
     }
     let range = policy.allowed[place as usize];
-    recorded
-        .expect(range.base_ipa)
-        .expect(range.size)
-        .expect(range.end_ipa)
-        .expect(range.attributes)
+    recorded.expect_all(&[range.base_ipa, range.size, range.end_ipa, range.attributes])
 }
 
 const LAST_REGION: u64 = 15;
@@ -114,12 +110,15 @@ fn region_at(recorded: Record, policy: Policy, place: u64) -> Record
     let handler = region.handler;
     let read = handler.read;
     let write = handler.write;
-    recorded
-        .expect(region.base_ipa)
-        .expect(region.size)
-        .expect(region.end_ipa)
-        .expect(handler_number(read))
-        .expect(handler_number(write))
+    recorded.expect_all(
+        &[
+            region.base_ipa,
+            region.size,
+            region.end_ipa,
+            handler_number(read),
+            handler_number(write),
+        ],
+    )
 }
 
 fn handler_number(handler: MemoryHandler) -> u64

@@ -203,12 +203,7 @@ fn core_state(cores: [Core; 8], recorded: Record, at: u64) -> Record
     let core = cores[at as usize];
     let x = core.x;
     let el1 = core.el1;
-    recorded
-        .expect_registers(x)
-        .expect(core.elr)
-        .expect(core.spsr)
-        .expect(el1.elr)
-        .expect(el1.spsr)
-        .expect(el1.far)
-        .expect(el1.esr)
+    recorded.expect_registers(x).expect_all(
+        &[core.elr, core.spsr, el1.elr, el1.spsr, el1.far, el1.esr],
+    )
 }

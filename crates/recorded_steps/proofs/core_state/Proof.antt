@@ -1,10 +1,10 @@
+use native.Mathlib.Omega.{arith}
+use borrow.Author.Tests.{lt-ltb, le-ltb}
 use mathlib.Core.List.{foldl-append}
 use mathlib.Core.Path.{sym}
 use lib.ListN.{getD}
 use Rattle.records.specs.Records.{expected}
 use Rattle.hypervisor.specs.Cores.{noCore}
-use native.Mathlib.Omega.{arith}
-use borrow.Author.Tests.{lt-ltb, le-ltb}
 use borrow.Author.Needs.{needs}
 use Rattle.recorded_steps.proofs.core_state.Statement.{statement}
 use Rattle.recorded_steps.proofs.core_state.Tie as tie
@@ -24,39 +24,18 @@ array-copy-out-core c = search needs
 expect-registers-requires : tie.Need-expect-registers-requires
 expect-registers-requires c κs = search needs
 
-expect-requires : tie.Need-expect-requires
-expect-requires c κs = search needs
+slice-aggregate-expect-all : tie.Need-slice-aggregate-expect-all
+slice-aggregate-expect-all c = search needs
 
-expect-requires-2 : tie.Need-expect-requires-2
-expect-requires-2 c κs = search needs
-
-expect-requires-3 : tie.Need-expect-requires-3
-expect-requires-3 c κs = search needs
-
-expect-requires-4 : tie.Need-expect-requires-4
-expect-requires-4 c κs = search needs
-
-expect-requires-5 : tie.Need-expect-requires-5
-expect-requires-5 c κs = search needs
-
-expect-requires-6 : tie.Need-expect-requires-6
-expect-requires-6 c κs = search needs
+expect-all-requires : tie.Need-expect-all-requires
+expect-all-requires c κs = search needs
 
 returns-2 : tie.Need-returns-2
 unfolding noCore
 returns-2 c =
-    let asked = c .before .before .before .before .before .before .before .before .before .before .before .args in
+    let asked = c .before .before .before .before .before .before .before .args in
     let core = getD (asked .t1) (asked .at) noCore in
-    rw (
-      c .expect6 .ensures,
-      c .before .expect5 .ensures,
-      c .before .before .expect4 .ensures,
-      c .before .before .before .expect3 .ensures,
-      c .before .before .before .before .expect2 .ensures,
-      c .before .before .before .before .before .expect .ensures,
-      c .before .before .before .before .before .before .expect-registers .ensures,
-      lt-ltb (asked .at) 8 (omega (arith, c .before .before .before .before .before .before .before .before .before .before .if1 .left)),
-    )
+    rw (c .expect-all .ensures, c .before .before .expect-registers .ensures, lt-ltb (asked .at) 8 (omega (arith, c .before .before .before .before .before .before .if1 .left)))
     (sym (foldl-append expected (asked .recorded) (core .x) _))
 
 pub core-state-spec : {M : Type 1} → statement M
@@ -68,10 +47,6 @@ core-state-spec =
     mul-core
     array-copy-out-core
     expect-registers-requires
-    expect-requires
-    expect-requires-2
-    expect-requires-3
-    expect-requires-4
-    expect-requires-5
-    expect-requires-6
+    slice-aggregate-expect-all
+    expect-all-requires
     returns-2)

@@ -5,56 +5,36 @@ use Rattle.recorded_calls.proofs.map.found.Tie as tie
 enum-known-lookup : tie.Need-enum-known-lookup
 enum-known-lookup c = search needs
 
-expect-requires : tie.Need-expect-requires
-expect-requires c κs = search needs
+slice-aggregate-expect-all : tie.Need-slice-aggregate-expect-all
+slice-aggregate-expect-all c = search needs
 
-expect-requires-2 : tie.Need-expect-requires-2
-expect-requires-2 c κs = search needs
-
-expect-requires-3 : tie.Need-expect-requires-3
-expect-requires-3 c κs = search needs
+expect-all-requires : tie.Need-expect-all-requires
+expect-all-requires c κs = search needs
 
 enum-told : tie.Need-enum-told
 enum-told c = search needs
 
-expect-requires-4 : tie.Need-expect-requires-4
-expect-requires-4 c κs = search needs
+slice-aggregate-expect-all-2 : tie.Need-slice-aggregate-expect-all-2
+slice-aggregate-expect-all-2 c = search needs
 
-expect-requires-5 : tie.Need-expect-requires-5
-expect-requires-5 c κs = search needs
-
-expect-requires-6 : tie.Need-expect-requires-6
-expect-requires-6 c κs = search needs
+expect-all-requires-2 : tie.Need-expect-all-requires-2
+expect-all-requires-2 c κs = search needs
 
 returns : tie.Need-returns
-returns c =
-    rw (
-      c .expect3 .ensures,
-      c .before .expect2 .ensures,
-      c .before .before .expect .ensures,
-      c .before .before .before .before .lookup .given .1,
-    )
+returns c = rw (c .expect-all .ensures, c .before .before .before .lookup .given .1)
 
 returns-2 : tie.Need-returns-2
-returns-2 c =
-    rw (
-      c .expect6 .ensures,
-      c .before .expect5 .ensures,
-      c .before .before .expect4 .ensures,
-      c .before .before .before .enum-told .given .1,
-    )
+returns-2 c = rw (c .expect-all2 .ensures, c .before .before .enum-told .given .1)
 
 pub found-spec : {M : Type 1} → statement M
 found-spec =
     tie.close
     (tie.spec
     enum-known-lookup
-    expect-requires
-    expect-requires-2
-    expect-requires-3
+    slice-aggregate-expect-all
+    expect-all-requires
     enum-told
-    expect-requires-4
-    expect-requires-5
-    expect-requires-6
+    slice-aggregate-expect-all-2
+    expect-all-requires-2
     returns
     returns-2)

@@ -16,27 +16,14 @@ mul-range c = search needs
 element-copy-out-range : tie.Need-element-copy-out-range
 element-copy-out-range c = search needs
 
-expect-requires : tie.Need-expect-requires
-expect-requires c κs = search needs
+slice-aggregate-expect-all : tie.Need-slice-aggregate-expect-all
+slice-aggregate-expect-all c = search needs
 
-expect-requires-2 : tie.Need-expect-requires-2
-expect-requires-2 c κs = search needs
-
-expect-requires-3 : tie.Need-expect-requires-3
-expect-requires-3 c κs = search needs
-
-expect-requires-4 : tie.Need-expect-requires-4
-expect-requires-4 c κs = search needs
+expect-all-requires : tie.Need-expect-all-requires
+expect-all-requires c κs = search needs
 
 returns-2 : tie.Need-returns-2
-returns-2 c =
-    rw (
-      c .expect4 .ensures,
-      c .before .expect3 .ensures,
-      c .before .before .expect2 .ensures,
-      c .before .before .before .expect .ensures,
-      lt-ltb (c .before .before .before .before .before .before .args .place) 32 (omega arith),
-    )
+returns-2 c = rw (c .expect-all .ensures, lt-ltb (c .before .before .before .before .args .place) 32 (omega arith))
 
 pub allowed-at-spec : {M : Type 1} → statement M
 allowed-at-spec =
@@ -46,8 +33,6 @@ allowed-at-spec =
     returns
     mul-range
     element-copy-out-range
-    expect-requires
-    expect-requires-2
-    expect-requires-3
-    expect-requires-4
+    slice-aggregate-expect-all
+    expect-all-requires
     returns-2)

@@ -16,38 +16,25 @@ mul-region c = search needs
 element-copy-out-region : tie.Need-element-copy-out-region
 element-copy-out-region c = search needs
 
-expect-requires : tie.Need-expect-requires
-expect-requires c κs = search needs
-
-expect-requires-2 : tie.Need-expect-requires-2
-expect-requires-2 c κs = search needs
-
-expect-requires-3 : tie.Need-expect-requires-3
-expect-requires-3 c κs = search needs
-
 handler-number-requires : tie.Need-handler-number-requires
 handler-number-requires c κs = search needs
-
-expect-requires-4 : tie.Need-expect-requires-4
-expect-requires-4 c κs = search needs
 
 handler-number-requires-2 : tie.Need-handler-number-requires-2
 handler-number-requires-2 c κs = search needs
 
-expect-requires-5 : tie.Need-expect-requires-5
-expect-requires-5 c κs = search needs
+slice-aggregate-expect-all : tie.Need-slice-aggregate-expect-all
+slice-aggregate-expect-all c = search needs
+
+expect-all-requires : tie.Need-expect-all-requires
+expect-all-requires c κs = search needs
 
 returns-2 : tie.Need-returns-2
 returns-2 c =
     rw (
-      c .expect5 .ensures,
-      c .before .handler-number2 .ensures,
-      c .before .before .expect4 .ensures,
+      c .expect-all .ensures,
+      c .before .before .handler-number2 .ensures,
       c .before .before .before .handler-number .ensures,
-      c .before .before .before .before .expect3 .ensures,
-      c .before .before .before .before .before .expect2 .ensures,
-      c .before .before .before .before .before .before .expect .ensures,
-      lt-ltb (c .before .before .before .before .before .before .before .before .before .before .args .place) 16 (omega arith),
+      lt-ltb (c .before .before .before .before .before .before .before .args .place) 16 (omega arith),
     )
 
 pub region-at-spec : {M : Type 1} → statement M
@@ -58,11 +45,8 @@ region-at-spec =
     returns
     mul-region
     element-copy-out-region
-    expect-requires
-    expect-requires-2
-    expect-requires-3
     handler-number-requires
-    expect-requires-4
     handler-number-requires-2
-    expect-requires-5
+    slice-aggregate-expect-all
+    expect-all-requires
     returns-2)
