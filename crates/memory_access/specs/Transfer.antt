@@ -3,6 +3,8 @@ use mathlib.Core.Bool.{Bool, cond}
 use Prim.Native.Nat.{ℕ, suc, _+_, _-_, _%_, _^_}
 use lib.IntN.{ℤ, pos, negsuc}
 use Rattle.memory_access.specs.declared.MemoryAccess.{MemoryAccess}
+use Rattle.memory_access.specs.declared.Decoded.{Decoded}
+use Rattle.memory_access.specs.declared.Decoded.the-variants.{Access, NoSyndrome}
 use Rattle.memory_access.specs.Syndrome.{bitAt, bitsOf}
 
 -- the low `w` bits of `v`
@@ -28,6 +30,11 @@ atRegisterWidth sf v = cond sf v (lowBits 32 v)
 -- what a load puts into its register, of the value read
 unfoldable pub extendReadResult : MemoryAccess → ℕ → ℕ
 extendReadResult a v = atRegisterWidth (a .«register_width_64») (loaded (bitsOf (a .width)) (a .«sign_extend») v)
+
+-- the same of what was decoded, 0 where the syndrome describes no access
+abbrev pub extendedValue : Decoded → ℕ → ℕ
+extendedValue (Access a) v = extendReadResult a v
+extendedValue NoSyndrome v = 0
 
 -- "a store of Rt's low bits at the access width"
 unfoldable pub storeValue : MemoryAccess → ℕ → ℕ

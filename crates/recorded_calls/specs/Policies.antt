@@ -22,9 +22,9 @@ abbrev pub builtTaken : Record → Built → PolicyTaken
 builtTaken r built = record { compared = expected r (resultNumber (built .answer)); policy = built .policy }
 
 -- a search's answer: found, base, offset
-abbrev pub foundWords : RegionFound → List ℕ
-foundWords Nothing = 0 ∷ 0 ∷ 0 ∷ []
-foundWords (Match m) = 1 ∷ m .region .«base_ipa» ∷ m .offset ∷ []
+abbrev pub searchWords : RegionFound → List ℕ
+searchWords Nothing = 0 ∷ 0 ∷ 0 ∷ []
+searchWords (Match m) = 1 ∷ m .region .«base_ipa» ∷ m .offset ∷ []
 
 -- an allowed range: base, size, end, attributes
 abbrev pub rangeWords : Stage2Range → List ℕ
@@ -42,11 +42,11 @@ regionWords region =
 -- many are held
 unfoldable pub policyRead : Policy → Record → ℕ → ℕ → Record
 policyRead policy r code a =
-    cond (eqb code 3) (foldl expected r (foundWords (findRegion (regionsHeld policy) (record { 0 = a }))))
+    cond (eqb code 3) (foldl expected r (searchWords (findRegion (regionsHeld policy) (record { 0 = a }))))
     (cond (eqb code 0x11) (placeCompared 32 (policy .allowed) (rangeOf 0 0 0) rangeWords r a)
     (cond (eqb code 0x12) (placeCompared 16 (policy .regions) (regionOf 0 0 0 0) regionWords r a)
     (cond (eqb code 0x13) (foldl expected r (policy .«allowed_count» ∷ policy .«region_count» ∷ []))
-    (cond (eqb code 0x15) (foldl expected r (foundWords (findRegion (policy .regions) (record { 0 = a }))))
+    (cond (eqb code 0x15) (foldl expected r (searchWords (findRegion (policy .regions) (record { 0 = a }))))
     r))))
 
 -- 0 is a fresh policy, 1 allows, 2 handles; a record of something else passes

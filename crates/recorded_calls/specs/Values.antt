@@ -6,10 +6,8 @@ use lib.Dec.{eqb, ltb}
 use Rattle.records.specs.declared.Record.{Record}
 use Rattle.records.specs.declared.Call.{Call}
 use Rattle.records.specs.Records.{expected, noRecord}
-use Rattle.memory_access.specs.declared.Decoded.{Decoded}
-use Rattle.memory_access.specs.declared.Decoded.the-variants.{Access, NoSyndrome}
 use Rattle.memory_access.specs.Syndrome.{decodeAccess, numberOf, valuesOf}
-use Rattle.memory_access.specs.Transfer.{extendReadResult}
+use Rattle.memory_access.specs.Transfer.{extendedValue}
 use Rattle.stage2_range.specs.declared.AlignedUp.{AlignedUp}
 use Rattle.stage2_range.specs.Ranges.{alignDown, alignUp, alignedNumber, alignedValue}
 
@@ -20,11 +18,6 @@ issCompared words r iss = cond (ltb iss (2 ^ 32)) (foldl expected r (words iss))
 -- decode: number and values
 abbrev pub decodedWords : ℕ → ℕ → ℕ → List ℕ
 decodedWords fipa far iss = let decoded = decodeAccess iss (record { 0 = fipa }) far in numberOf decoded ∷ valuesOf decoded
-
--- what the load puts into its register, 0 where the syndrome describes none
-abbrev pub extendedValue : Decoded → ℕ → ℕ
-extendedValue (Access a) value = extendReadResult a value
-extendedValue NoSyndrome value = 0
 
 -- extend a load's result: number and value
 abbrev pub extendedWords : ℕ → ℕ → List ℕ

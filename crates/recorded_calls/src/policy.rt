@@ -4,7 +4,7 @@ ghost use mathlib.Core.List.{foldl};
 ghost use Rattle.stage2_range.specs.Registry.{handlerNumber};
 ghost use Rattle.stage2.specs.Policy.{rangeOf, regionOf};
 ghost use Rattle.records.specs.Records.{expected, placeCompared};
-ghost use Rattle.recorded_calls.specs.Policies.{builtTaken, foundWords, rangeWords, regionWords, policyRead, policyTaken};
+ghost use Rattle.recorded_calls.specs.Policies.{builtTaken, searchWords, rangeWords, regionWords, policyRead, policyTaken};
 use memory_access::Ipa;
 use records::Call;
 use records::Record;
@@ -73,7 +73,7 @@ fn read(policy: Policy, recorded: Record, code: u64, a: u64) -> Record
 
 // ipa | found base offset
 fn found(recorded: Record, found: RegionFound) -> Record
-    ensures { λ r. ⌜ r ≡ foldl expected recorded (foundWords found) ⌝ }
+    ensures { λ r. ⌜ r ≡ foldl expected recorded (searchWords found) ⌝ }
 {
     match found {
         RegionFound::Match(m) => {

@@ -2,7 +2,8 @@
 ghost use mathlib.Core.Path.{_≡_};
 ghost use mathlib.Core.List.{foldl};
 ghost use Rattle.records.specs.Records.{expected};
-ghost use Rattle.recorded_calls.specs.Values.{issCompared, decodedWords, extendedValue, extendedWords, alignedWords, valueCompared};
+ghost use Rattle.memory_access.specs.Transfer.{extendedValue};
+ghost use Rattle.recorded_calls.specs.Values.{issCompared, decodedWords, extendedWords, alignedWords, valueCompared};
 use memory_access::Decoded;
 use memory_access::Fipa;
 use memory_access::MemoryAccess;

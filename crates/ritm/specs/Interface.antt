@@ -7,10 +7,8 @@ use mathlib.Core.List.{List, [], _∷_}
 use lib.Dec.{eqb, ltb}
 use lib.ListN.{getD}
 use Rattle.lists.specs.Lists.{firstIndex}
-use Rattle.memory_access.specs.declared.Decoded.{Decoded}
-use Rattle.memory_access.specs.declared.Decoded.the-variants.{Access, NoSyndrome}
 use Rattle.memory_access.specs.Syndrome.{decodeAccess, numberOf, valuesOf}
-use Rattle.memory_access.specs.Transfer.{extendReadResult}
+use Rattle.memory_access.specs.Transfer.{extendedValue}
 use Rattle.stage2_range.specs.Ranges.{resultNumber, alignDown, alignUp, alignedNumber, alignedValue}
 use Rattle.stage2_range.specs.Registry.{hasAddress, findRegion, foundValues}
 use Rattle.stage2.specs.Policy.{regionsHeld, allowRange, handleRange}
@@ -123,11 +121,6 @@ unfoldable pub decodeCall : ℕ → ℕ → ℕ → Left
 decodeCall iss fipa far =
     let decoded = decodeAccess iss (record { 0 = fipa }) far in
     record { number = numberOf decoded; state = []; result = bytesOf (valuesOf decoded) }
-
--- what a load puts into its register, of the value that was read
-abbrev pub extendedValue : Decoded → ℕ → ℕ
-extendedValue (Access access) value = extendReadResult access value
-extendedValue NoSyndrome value = 0
 
 -- `ritm_extend_read_result`, by the syndrome alone
 unfoldable pub extendCall : ℕ → ℕ → Left
