@@ -12,16 +12,16 @@ use lib.Dec.{eqb, ltb}
 use lib.ListN.{length, getD, set, take, replicate, length-set, length-append, length-replicate, List·getD-append}
 use lib.Seq.{set-at, set-append-left}
 use Rattle.lists.proofs.Laws.{cond-all, cond-same}
-use Rattle.words.specs.Words.{wordAt, withWord, each, wordsAt, withWords, keptCode, readCode, Bytes}
-use Rattle.words.proofs.Words.{length-each, getD-each, each-snoc}
-use Rattle.words.proofs.RoundTrip.{Every, code-kept}
-use Rattle.words.proofs.InPlace.{words-rewritten, words-set}
+use Rattle.lent_words.specs.Words.{wordAt, withWord, each, wordsAt, withWords, keptCode, readCode, Bytes}
+use Rattle.lent_words.proofs.Words.{length-each, getD-each, each-snoc}
+use Rattle.lent_words.proofs.RoundTrip.{Every, code-kept}
+use Rattle.lent_words.proofs.InPlace.{words-rewritten, words-set}
 use Rattle.exceptions.specs.declared.Core.{Core}
 use Rattle.exceptions.specs.declared.GprWritten.{GprWritten}
 use Rattle.exceptions.specs.Registers.{freshCore, advancePc, withRegisters, writeGpr}
 use Rattle.forwarded_call.specs.ForwardedCall.{forwardedValues}
-use Rattle.cores_layout.specs.Layout.{waitByCode, waitNumber, coreAt, withCore, coresAt}
-use Rattle.cores_layout.proofs.Records.{core-of, no-core, restWords, length-core}
+use Rattle.lent_cores.specs.Layout.{waitByCode, waitNumber, coreAt, withCore, coresAt}
+use Rattle.lent_cores.proofs.Records.{core-of, no-core, restWords, length-core}
 
 -- what is read of a core of any number: above 7, what a fresh core has
 pub of-core : {A : Type 0} (f : Core → A) (b : List ℕ) (i : ℕ) → f (getD (coresAt b) i freshCore) ≡ cond (ltb 7 i) (f freshCore) (f (coreAt b i))

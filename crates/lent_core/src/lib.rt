@@ -4,16 +4,16 @@ ghost use mathlib.Core.Path.{_≡_};
 ghost use mathlib.Core.List.{_∷_};
 ghost use Prim.Native.Nat.{_+_, _%_, _^_, _<_, min};
 ghost use lib.ListN.{getD};
-ghost use Rattle.words.specs.Words.{bytesOf};
+ghost use Rattle.lent_words.specs.Words.{bytesOf};
 ghost use Rattle.exceptions.specs.Registers.{advancePc, readGpr, writeGpr, withReturn};
 ghost use Rattle.forwarded_call.specs.ForwardedCall.{forwardedValues, withWait};
-ghost use Rattle.cores_layout.specs.Layout.{heldCore, storedCore, heldWord, storedWord};
-use cores_layout::CORES_SIZE;
-use cores_layout::TRAP_RESULT_SIZE;
+ghost use Rattle.lent_cores.specs.Layout.{heldCore, storedCore, heldWord, storedWord};
 use exceptions::FaultRegisters;
 use exceptions::GprRead;
 use exceptions::GprWrite;
 use exceptions::Wait;
+use lent_cores::CORES_SIZE;
+use lent_cores::TRAP_RESULT_SIZE;
 
 // Of an instruction, in bytes.
 const INSTRUCTION_LENGTH: u64 = 4;
@@ -24,7 +24,7 @@ fn get_at(cores: &[u8; CORES_SIZE], core: u64, word: usize) -> u64
     ensures { λ r. ⌜ r ≡ heldWord (now (cores .entry)) core word ⌝ }
 {
     if core < 8 {
-        words::get_word(cores, 38 * core as usize + word)
+        lent_words::get_word(cores, 38 * core as usize + word)
     } else {
         0
     }
@@ -34,7 +34,7 @@ fn get_at(cores: &[u8; CORES_SIZE], core: u64, word: usize) -> u64
 pub fn get_wait(cores: &[u8; CORES_SIZE], core: u64) -> Wait
     ensures { λ r. ⌜ r ≡ heldCore (now (cores .entry)) core .wait ⌝ }
 {
-    cores_layout::wait_of(get_at(cores, core, 37))
+    lent_cores::wait_of(get_at(cores, core, 37))
 }
 
 // A core's ELR.
@@ -84,10 +84,10 @@ pub fn put_forwarded(
 )
     ensures { λ _. ⌜ now (result .exit) ≡ bytesOf (kind ∷ forwardedValues (heldCore (now (cores .entry)) core .x) (min count 18)) ⌝ }
 {
-    words::put_word(result, 0, kind);
+    lent_words::put_word(result, 0, kind);
     let mut i: usize = 0;
     while i < 18 {
-        words::put_word(result, i + 1, first_at(cores, core, count, i));
+        lent_words::put_word(result, i + 1, first_at(cores, core, count, i));
         i += 1;
     }
 }
@@ -98,7 +98,7 @@ fn put_at(cores: &mut [u8; CORES_SIZE], core: u64, word: usize, value: u64)
     ensures { λ _. ⌜ now (cores .exit) ≡ storedWord (now (cores .entry)) core word value ⌝ }
 {
     if core < 8 {
-        words::put_word(cores, 38 * core as usize + word, value);
+        lent_words::put_word(cores, 38 * core as usize + word, value);
     }
 }
 
@@ -115,7 +115,7 @@ pub fn put_advanced(cores: &mut [u8; CORES_SIZE], core: u64)
     ensures { λ _. ⌜ now (cores .exit)
         ≡ storedCore (now (cores .entry)) core (advancePc (heldCore (now (cores .entry)) core)) ⌝ }
 {
-    words::are_bytes(cores);
+    lent_words::are_bytes(cores);
     let elr = get_elr(cores, core);
     put_past(cores, core, elr);
 }
@@ -126,7 +126,7 @@ pub fn put_gpr(cores: &mut [u8; CORES_SIZE], core: u64, index: usize, value: u64
         × (now (cores .exit)
         ≡ storedCore (now (cores .entry)) core (writeGpr (heldCore (now (cores .entry)) core) index value .core)) ⌝ }
 {
-    words::are_bytes(cores);
+    lent_words::are_bytes(cores);
     match index {
         0..=30 => {
             put_at(cores, core, index, value);
@@ -152,15 +152,15 @@ pub fn put_wait(cores: &mut [u8; CORES_SIZE], core: u64, wait: Wait)
     ensures { λ _. ⌜ now (cores .exit)
         ≡ storedCore (now (cores .entry)) core (withWait (heldCore (now (cores .entry)) core) wait) ⌝ }
 {
-    words::are_bytes(cores);
+    lent_words::are_bytes(cores);
     if core < 8 {
         let at = 38 * core as usize + 37;
-        let code = words::kept_code(
-            words::get_word(cores, at),
+        let code = lent_words::kept_code(
+            lent_words::get_word(cores, at),
             5,
-            cores_layout::wait_number(wait),
+            lent_cores::wait_number(wait),
         );
-        words::put_word(cores, at, code);
+        lent_words::put_word(cores, at, code);
     }
 }
 
@@ -169,14 +169,14 @@ pub fn put_return(cores: &mut [u8; CORES_SIZE], core: u64, elr: u64, spsr: u64, 
     ensures { λ _. ⌜ now (cores .exit)
         ≡ storedCore (now (cores .entry)) core (withReturn (heldCore (now (cores .entry)) core) elr spsr el1) ⌝ }
 {
-    words::are_bytes(cores);
+    lent_words::are_bytes(cores);
     if core < 8 {
         let at = 38 * core as usize;
-        words::put_word(cores, at + 31, elr);
-        words::put_word(cores, at + 32, spsr);
-        words::put_word(cores, at + 33, el1.elr);
-        words::put_word(cores, at + 34, el1.spsr);
-        words::put_word(cores, at + 35, el1.far);
-        words::put_word(cores, at + 36, el1.esr);
+        lent_words::put_word(cores, at + 31, elr);
+        lent_words::put_word(cores, at + 32, spsr);
+        lent_words::put_word(cores, at + 33, el1.elr);
+        lent_words::put_word(cores, at + 34, el1.spsr);
+        lent_words::put_word(cores, at + 35, el1.far);
+        lent_words::put_word(cores, at + 36, el1.esr);
     }
 }

@@ -4,7 +4,7 @@ use mathlib.Core.Path.{_≡_, refl, sym, ap, _∙_}
 use mathlib.Core.List.{List, [], _∷_, _++_}
 use native.Mathlib.Omega.{arith}
 use lib.ListN.{getD}
-use Rattle.words.specs.Words.{wordAt, withWord, wordsAt, withWords, keptCode, Bytes}
+use Rattle.lent_words.specs.Words.{wordAt, withWord, wordsAt, withWords, keptCode, Bytes}
 use Rattle.exceptions.specs.declared.Core.{Core}
 use Rattle.exceptions.specs.declared.Conduit.{Conduit}
 use Rattle.exceptions.specs.declared.Conduit.the-variants.{Hvc, Smc}
@@ -14,7 +14,7 @@ use Rattle.hvc_response.specs.declared.HvcResult.{HvcResult}
 use Rattle.hvc_response.specs.declared.HvcResult.the-variants.{Unhandled, Value, Success, SuccessLarge, Error}
 use Rattle.hvc_response.specs.Response.{response, withFirst}
 use Rattle.forwarded_call.specs.ForwardedCall.{withWait, resumed}
-use Rattle.cores_layout.specs.Layout.{coreAt, coresAt, withCore}
+use Rattle.lent_cores.specs.Layout.{coreAt, coresAt, withCore}
 use Rattle.lent_core.proofs.InPlace.{core-put}
 use Rattle.lent_reply.specs.LentReply.{resumedElr}
 

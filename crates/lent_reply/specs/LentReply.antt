@@ -10,8 +10,8 @@ use Rattle.exceptions.specs.declared.Conduit.the-variants.{Hvc, Smc}
 use Rattle.forwarded_call.specs.declared.HvcReply.{HvcReply}
 use Rattle.forwarded_call.specs.declared.Replied.{Replied}
 use Rattle.forwarded_call.specs.ForwardedCall.{replyCore, replyNumber}
-use Rattle.words.specs.Words.{wordsAt, Left, unlessRefused}
-use Rattle.cores_layout.specs.Layout.{withCore, heldCore}
+use Rattle.lent_words.specs.Words.{wordsAt, Left, unlessRefused}
+use Rattle.lent_cores.specs.Layout.{withCore, heldCore}
 
 -- "for an SMC, whichever reply it was, ELR grows by 4 modulo 2^64, for an HVC it stays"
 abbrev pub resumedElr : Conduit → ℕ → ℕ

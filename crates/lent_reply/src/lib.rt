@@ -3,19 +3,19 @@
 ghost use mathlib.Core.Path.{_≡_};
 ghost use Prim.Native.Nat.{_+_, _<_, _≤_};
 ghost use lib.ListN.{take};
-ghost use Rattle.words.specs.Words.{wordsAt, withWord, withWords, storeEach};
-ghost use Rattle.cores_layout.specs.Layout.{heldCore, withCore};
+ghost use Rattle.lent_words.specs.Words.{wordsAt, withWord, withWords, storeEach};
+ghost use Rattle.lent_cores.specs.Layout.{heldCore, withCore};
 ghost use Rattle.hvc_response.specs.Response.{response, withFirst};
 ghost use Rattle.forwarded_call.specs.ForwardedCall.{resumed, completeCall};
 ghost use Rattle.lent_reply.specs.LentReply.{resumedElr, replyIn, repliedOne, repliedAny};
-use cores_layout::CORES_SIZE;
-use cores_layout::VALUES_SIZE;
 use exceptions::Conduit;
 use exceptions::Wait;
 use forwarded_call::ReplyAnswer;
 use hvc_response::HvcResult;
 use hvc_response::HvcResultKind;
 use hvc_response::NOT_SUPPORTED;
+use lent_cores::CORES_SIZE;
+use lent_cores::VALUES_SIZE;
 
 // The values of a reply from one on, and zeros past the last.
 fn get_values(values: &[u8; VALUES_SIZE], from: usize) -> [u64; 18]
@@ -25,7 +25,7 @@ fn get_values(values: &[u8; VALUES_SIZE], from: usize) -> [u64; 18]
     let mut out = [0u64; 18];
     let mut i: usize = 0;
     while i < 18 {
-        out[i] = words::get_word(values, from + i);
+        out[i] = lent_words::get_word(values, from + i);
         i += 1;
     }
     out
@@ -46,7 +46,7 @@ fn put_values(
     let read = get_values(values, from);
     let mut i: usize = 0;
     while i < count {
-        words::put_word(cores, at + (from + i), read[i]);
+        lent_words::put_word(cores, at + (from + i), read[i]);
         i += 1;
     }
 }
@@ -64,13 +64,13 @@ fn modify_register_state(
 {
     match result {
         HvcResult::Unhandled => {
-            words::put_word(cores, at, hvc_response::error_to_u64(NOT_SUPPORTED));
+            lent_words::put_word(cores, at, hvc_response::error_to_u64(NOT_SUPPORTED));
         }
         HvcResult::Value(value) => {
-            words::put_word(cores, at, value);
-            words::put_word(cores, at + 1, 0);
-            words::put_word(cores, at + 2, 0);
-            words::put_word(cores, at + 3, 0);
+            lent_words::put_word(cores, at, value);
+            lent_words::put_word(cores, at + 1, 0);
+            lent_words::put_word(cores, at + 2, 0);
+            lent_words::put_word(cores, at + 3, 0);
         }
         HvcResult::Success => {
             put_values(cores, at, values, 0, 4);
@@ -80,7 +80,7 @@ fn modify_register_state(
             put_values(cores, at, values, 4, 14);
         }
         HvcResult::Error(error) => {
-            words::put_word(cores, at, hvc_response::error_to_u64(error));
+            lent_words::put_word(cores, at, hvc_response::error_to_u64(error));
         }
     }
 }
@@ -110,13 +110,13 @@ fn put_reply(
     ensures { λ _. ⌜ now (cores .exit)
         ≡ withCore (now (cores .entry)) core (resumed conduit (withFirst (heldCore (now (cores .entry)) core) (response result (wordsAt (now (values .entry)) 0 18)))) ⌝ }
 {
-    words::are_bytes(cores);
+    lent_words::are_bytes(cores);
     let at = 38 * core as usize;
     let elr = resumed_elr(conduit, lent_core::get_elr(cores, core));
-    let code = words::kept_code(words::get_word(cores, at + 37), 5, 0);
+    let code = lent_words::kept_code(lent_words::get_word(cores, at + 37), 5, 0);
     modify_register_state(cores, at, result, values);
-    words::put_word(cores, at + 31, elr);
-    words::put_word(cores, at + 37, code);
+    lent_words::put_word(cores, at + 31, elr);
+    lent_words::put_word(cores, at + 37, code);
 }
 
 // A reply that the core's recipient may give, by its kind.
@@ -134,7 +134,7 @@ fn complete_call(
         ⌜ (r ≡ repliedOne (now (cores .entry)) core replied .number)
         × (now (cores .exit) ≡ repliedOne (now (cores .entry)) core replied .state) ⌝ }
 {
-    match HvcResult::from_kind(kind, words::get_word(values, 0), error) {
+    match HvcResult::from_kind(kind, lent_words::get_word(values, 0), error) {
         HvcResultKind::Result(result) => {
             put_reply(cores, core, conduit, result, values);
             ReplyAnswer::Accepted.number()

@@ -8,10 +8,10 @@ use native.Mathlib.Omega.{arith}
 use lib.Dec.{eqb, ltb}
 use lib.ListN.{length, getD, set, take, drop, length-set, length-append, length-drop}
 use Rattle.lists.proofs.Laws.{cond-all}
-use Rattle.words.specs.Words.{wordAt, FitsWord, Bytes}
-use Rattle.words.proofs.Words.{length-each}
-use Rattle.words.proofs.RoundTrip.{Every, word-fits}
-use Rattle.words.proofs.Every.{every-each, every-append, every-take, every-drop, every-set}
+use Rattle.lent_words.specs.Words.{wordAt, FitsWord, Bytes}
+use Rattle.lent_words.proofs.Words.{length-each}
+use Rattle.lent_words.proofs.RoundTrip.{Every, word-fits}
+use Rattle.lent_words.proofs.Every.{every-each, every-append, every-take, every-drop, every-set}
 use Rattle.memory_access.specs.declared.MemoryAccess.{MemoryAccess}
 use Rattle.memory_access.specs.declared.MemoryAccessWidth.{MemoryAccessWidth}
 use Rattle.memory_access.specs.declared.MemoryAccessWidth.the-variants.{U8, U16, U32, U64}
@@ -46,7 +46,7 @@ use Rattle.hypervisor.specs.Answers.{refusedCore}
 use Rattle.hypervisor.specs.Trap.{handleSyncLower}
 use Rattle.hypervisor.proofs.Laws.{trap-all}
 use Rattle.hypervisor.specs.Cores.{saveCore}
-use Rattle.cores_layout.specs.Layout.{coreAt, faultWords}
+use Rattle.lent_cores.specs.Layout.{coreAt, faultWords}
 
 -- A core has 31 registers, and its numbers fit words.
 pub record InWords (c : Core) : Type 0 where

@@ -8,7 +8,7 @@ use borrow.Author.Tests.{ltb-false, eqb-true, eqb-false, le-ltb}
 use lib.Dec.{eqb, ltb}
 use lib.ListN.{getD, set}
 use lib.Seq.{getD-set-same}
-use Rattle.words.specs.Words.{FitsWord, Lent}
+use Rattle.lent_words.specs.Words.{FitsWord, Lent}
 use Rattle.stage2.specs.declared.Policy.{Policy}
 use Rattle.stage2.specs.Policy.{regionsHeld}
 use Rattle.exceptions.specs.declared.Core.{Core}
@@ -22,9 +22,9 @@ use Rattle.hypervisor.specs.declared.Trapped.{Trapped}
 use Rattle.hypervisor.specs.Answers.{coreNumber, trapNumber, noValues}
 use Rattle.hypervisor.specs.Trap.{handleSyncLower}
 use Rattle.hypervisor.specs.Cores.{noCore, noSuchCore, placed, onCore, trappedBy, trapOn}
-use Rattle.cores_layout.specs.Layout.{coresAt, withCore, counterAt, withCounter}
-use Rattle.cores_layout.proofs.Records.{core-of, length-cores, core-counter, core-lent, counter-back}
-use Rattle.cores_layout.proofs.States.{cores-back, counter-cores}
+use Rattle.lent_cores.specs.Layout.{coresAt, withCore, counterAt, withCounter}
+use Rattle.lent_cores.proofs.Records.{core-of, length-cores, core-counter, core-lent, counter-back}
+use Rattle.lent_cores.proofs.States.{cores-back, counter-cores}
 use Rattle.ritm.specs.Interface.{unlessRefused, steppedCore, writeCall}
 use Rattle.lent_states.proofs.CoreSteps.{InWords, held-core, written, trapped}
 

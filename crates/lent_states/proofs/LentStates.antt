@@ -7,10 +7,10 @@ use borrow.Author.Tests.{le-ltb}
 use lib.Dec.{eqb}
 use lib.ListN.{getD, replicate, length-replicate}
 use Rattle.lists.proofs.Laws.{cond-all}
-use Rattle.words.specs.Words.{wordAt, wordsAt, bytesOf, FitsWord, Bytes, Lent}
-use Rattle.words.proofs.Words.{length-each}
-use Rattle.words.proofs.RoundTrip.{Every, word-fits}
-use Rattle.words.proofs.Every.{every-each}
+use Rattle.lent_words.specs.Words.{wordAt, wordsAt, bytesOf, FitsWord, Bytes, Lent}
+use Rattle.lent_words.proofs.Words.{length-each}
+use Rattle.lent_words.proofs.RoundTrip.{Every, word-fits}
+use Rattle.lent_words.proofs.Every.{every-each}
 use Rattle.stage2_range.specs.Ranges.{resultNumber}
 use Rattle.stage2.specs.declared.Policy.{Policy}
 use Rattle.stage2.specs.Policy.{allowRange, handleRange}
@@ -24,13 +24,13 @@ use Rattle.hypervisor.specs.Cores.{noCore, freshCores, saveCore, saveOn, replyS
 use Rattle.hypervisor.proofs.Steps.{trap-policy}
 use Rattle.simple_map.specs.declared.SimpleMap.{SimpleMap}
 use Rattle.simple_map.specs.Map.{insertItem, insertNumber, removeItem}
-use Rattle.policy_layout.specs.Layout.{policyAt, withAllowed, withRegions}
-use Rattle.policy_layout.proofs.States.{fresh-policy, allowed-lent, regions-lent}
-use Rattle.cores_layout.specs.Layout.{coresAt, counterAt, withCore, withCounter}
-use Rattle.cores_layout.proofs.Records.{core-lent, counter-lent}
-use Rattle.cores_layout.proofs.States.{fresh-cores, fresh-counter}
-use Rattle.map_layout.specs.Layout.{mapAt, withPlaces}
-use Rattle.map_layout.proofs.States.{fresh-map, places-lent}
+use Rattle.lent_policy.specs.Layout.{policyAt, withAllowed, withRegions}
+use Rattle.lent_policy.proofs.States.{fresh-policy, allowed-lent, regions-lent}
+use Rattle.lent_cores.specs.Layout.{coresAt, counterAt, withCore, withCounter}
+use Rattle.lent_cores.proofs.Records.{core-lent, counter-lent}
+use Rattle.lent_cores.proofs.States.{fresh-cores, fresh-counter}
+use Rattle.lent_map.specs.Layout.{mapAt, withPlaces}
+use Rattle.lent_map.proofs.States.{fresh-map, places-lent}
 use Rattle.ritm.specs.Interface.{unlessRefused, onEight, allowCall, handleCall, steppedCore, saveCall, trapCall, replyCall, writeCall, insertCall, getCall, removeCall}
 use Rattle.order_independence.specs.Calls.{State, freshState, answerNumber, call, callAll}
 use Rattle.order_independence.proofs.Calls.{refusal-keeps}

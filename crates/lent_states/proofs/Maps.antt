@@ -7,17 +7,17 @@ use lib.Dec.{eqb}
 use lib.ListN.{length}
 use Rattle.lists.specs.Lists.{replaceFirst}
 use Rattle.lists.proofs.Laws.{cond-all, length-replace}
-use Rattle.words.specs.Words.{wordAt, FitsWord, Bytes, Lent}
-use Rattle.words.proofs.Words.{length-each}
-use Rattle.words.proofs.RoundTrip.{Every, word-fits}
-use Rattle.words.proofs.Every.{every-each, every-replace}
+use Rattle.lent_words.specs.Words.{wordAt, FitsWord, Bytes, Lent}
+use Rattle.lent_words.proofs.Words.{length-each}
+use Rattle.lent_words.proofs.RoundTrip.{Every, word-fits}
+use Rattle.lent_words.proofs.Every.{every-each, every-replace}
 use Rattle.simple_map.specs.declared.Insertion.the-variants.{Accepted, CapacityExceeded}
 use Rattle.simple_map.specs.declared.Inserted.{Inserted}
 use Rattle.simple_map.specs.declared.Place.{Place}
 use Rattle.simple_map.specs.Map.{freePlace, taken, isFree, holdsKey, hasRoom, without, insertItem, insertNumber, removeItem}
-use Rattle.map_layout.specs.Layout.{placeAt, mapAt, withPlaces}
-use Rattle.map_layout.proofs.Records.{ItemFits}
-use Rattle.map_layout.proofs.States.{places-back}
+use Rattle.lent_map.specs.Layout.{placeAt, mapAt, withPlaces}
+use Rattle.lent_map.proofs.Records.{ItemFits}
+use Rattle.lent_map.proofs.States.{places-back}
 use Rattle.ritm.specs.Interface.{unlessRefused, insertCall, removeCall}
 
 -- the numbers of a place fit words

@@ -6,10 +6,10 @@ use native.Mathlib.Omega.{arith}
 use borrow.Author.Tests.{ne-eqb}
 use lib.Dec.{leb}
 use lib.ListN.{length, set, take, drop, length-set, take-append-drop}
-use Rattle.words.specs.Words.{FitsWord, Bytes, Lent}
-use Rattle.words.proofs.Words.{length-each}
-use Rattle.words.proofs.RoundTrip.{Every, word-fits}
-use Rattle.words.proofs.Every.{every-each, every-append, every-take, every-drop, every-set, every-insert}
+use Rattle.lent_words.specs.Words.{FitsWord, Bytes, Lent}
+use Rattle.lent_words.proofs.Words.{length-each}
+use Rattle.lent_words.proofs.RoundTrip.{Every, word-fits}
+use Rattle.lent_words.proofs.Every.{every-each, every-append, every-take, every-drop, every-set, every-insert}
 use Rattle.stage2_range.specs.declared.Stage2Result.{Stage2Result}
 use Rattle.stage2_range.specs.declared.Stage2Result.the-variants.{Accepted, Refused}
 use Rattle.stage2_range.specs.declared.MemoryAccessRegion.{MemoryAccessRegion}
@@ -21,9 +21,9 @@ use Rattle.stage2.specs.Policy.{rangeOf, regionOf, builtBy, allowAnswer, allowR
 use Rattle.stage2.specs.Policy as policy
 use Rattle.stage2.proofs.WellFormed.{inserted-places}
 use Rattle.stage2.proofs.Laws.{error-not-zero, allow-accepted, handle-accepted}
-use Rattle.policy_layout.specs.Layout.{rangeAt, regionAt, policyAt, withAllowed, withRegions}
-use Rattle.policy_layout.proofs.Records.{RangeFits, RegionFits}
-use Rattle.policy_layout.proofs.States.{allowed-back, regions-back}
+use Rattle.lent_policy.specs.Layout.{rangeAt, regionAt, policyAt, withAllowed, withRegions}
+use Rattle.lent_policy.proofs.Records.{RangeFits, RegionFits}
+use Rattle.lent_policy.proofs.States.{allowed-back, regions-back}
 use Rattle.ritm.specs.Interface.{unlessRefused, allowCall, handleCall}
 
 -- what bytes hold fits words

@@ -2,15 +2,15 @@
 use Prim.Native.Nat.{ℕ, _≤_}
 use lib.IntN.{ℤ}
 use mathlib.Core.List.{List, [], _∷_, map}
-use Rattle.words.specs.Words.{wordAt, wordsAt, FitsWord, Bytes, Lent}
+use Rattle.lent_words.specs.Words.{wordAt, wordsAt, FitsWord, Bytes, Lent}
 use Rattle.stage2.specs.Builds.{allow, handle}
 use Rattle.data_abort.specs.declared.TrapRegisters.{TrapRegisters}
 use Rattle.simple_map.specs.Map.{lookupValues}
 use Rattle.hvc_response.specs.Response.{signedWord}
 use Rattle.hypervisor.specs.Answers.{trapKind}
-use Rattle.policy_layout.specs.Layout.{policyAt}
-use Rattle.cores_layout.specs.Layout.{coresAt, counterAt}
-use Rattle.map_layout.specs.Layout.{mapAt}
+use Rattle.lent_policy.specs.Layout.{policyAt}
+use Rattle.lent_cores.specs.Layout.{coresAt, counterAt}
+use Rattle.lent_map.specs.Layout.{mapAt}
 use Rattle.ritm.specs.Interface.{Left, allowCall, handleCall, saveCall, trapCall, replyCall, writeCall, insertCall, getCall, removeCall}
 use Rattle.order_independence.specs.Calls.{State, HostCall, build, core-call, save, trap, reply, write-gpr, by-value, insert, get, remove, Answer, built, stepped, trapped, written, inserted, looked-up}
 

@@ -13,10 +13,10 @@ use Rattle.data_abort.specs.declared.TrapRegisters.{TrapRegisters}
 use Rattle.stage2.specs.Policy.{regionsHeld}
 use Rattle.hypervisor.specs.Trap.{handleSyncLower}
 use Rattle.hypervisor.specs.Cores.{noCore, trapOn}
-use Rattle.words.specs.Words.{bytesOf}
-use Rattle.policy_layout.specs.Layout.{policyAt}
-use Rattle.cores_layout.specs.Layout.{coresAt, counterAt}
-use Rattle.cores_layout.proofs.Records.{core-of, length-cores}
+use Rattle.lent_words.specs.Words.{bytesOf}
+use Rattle.lent_policy.specs.Layout.{policyAt}
+use Rattle.lent_cores.specs.Layout.{coresAt, counterAt}
+use Rattle.lent_cores.proofs.Records.{core-of, length-cores}
 use Rattle.lent_trap.specs.LentTrap.{trapCall, trappedOne}
 
 -- one of the eight, whatever stands for a core past them

@@ -8,9 +8,9 @@ use Rattle.data_abort.specs.declared.TrapRegisters.{TrapRegisters}
 use Rattle.hypervisor.specs.declared.TrapStep.{TrapStep}
 use Rattle.hypervisor.specs.Answers.{trapNumber, trapKind, abortAnswer, answered}
 use Rattle.hypervisor.specs.Cores.{noCore, trapOn}
-use Rattle.words.specs.Words.{bytesOf, Left, unlessRefused}
-use Rattle.policy_layout.specs.Layout.{policyAt}
-use Rattle.cores_layout.specs.Layout.{coresAt, withCore, counterAt, withCounter}
+use Rattle.lent_words.specs.Words.{bytesOf, Left, unlessRefused}
+use Rattle.lent_policy.specs.Layout.{policyAt}
+use Rattle.lent_cores.specs.Layout.{coresAt, withCore, counterAt, withCounter}
 
 -- a trap: the core's words and the counter are written; the result is the kind of the answer and its eighteen values
 unfoldable pub trapCall : List ℕ → List ℕ → ℕ → TrapRegisters → Left

@@ -3,9 +3,9 @@
 ghost use mathlib.Core.Path.{_≡_};
 ghost use mathlib.Core.List.{_∷_};
 ghost use Prim.Native.Nat.{_<_};
-ghost use Rattle.words.specs.Words.{bytesOf};
-ghost use Rattle.policy_layout.specs.Layout.{policyAt};
-ghost use Rattle.cores_layout.specs.Layout.{heldCore, counterAt};
+ghost use Rattle.lent_words.specs.Words.{bytesOf};
+ghost use Rattle.lent_policy.specs.Layout.{policyAt};
+ghost use Rattle.lent_cores.specs.Layout.{heldCore, counterAt};
 ghost use Rattle.stage2.specs.Policy.{regionsHeld};
 ghost use Rattle.data_abort.specs.DataAbort.{injectDataAbort, handleDataAbort};
 ghost use Rattle.data_abort.specs.Outcome.{tryMemoryAccess};
@@ -13,8 +13,6 @@ ghost use Rattle.forwarded_call.specs.ForwardedCall.{forwardCall};
 ghost use Rattle.hypervisor.specs.Answers.{trapNumber, trapKind, noValues, forwarded};
 ghost use Rattle.hypervisor.specs.Trap.{exceptionClass, byClass};
 ghost use Rattle.lent_trap.specs.LentTrap.{trapCall, trappedOne, abortStep};
-use cores_layout::CORES_SIZE;
-use cores_layout::TRAP_RESULT_SIZE;
 use data_abort::AccessOutcome;
 use data_abort::Emulated;
 use data_abort::TrapRegisters;
@@ -23,15 +21,17 @@ use exceptions::Wait;
 use hypervisor::CoreError;
 use hypervisor::ExceptionClass;
 use hypervisor::TrapAnswer;
+use lent_cores::CORES_SIZE;
+use lent_cores::TRAP_RESULT_SIZE;
+use lent_policy::POLICY_SIZE;
 use memory_access::Decoded;
 use memory_access::MemoryAccessKind;
-use policy_layout::POLICY_SIZE;
 
 // Writes an answer without values, and gives its number.
 fn answer(answer: TrapAnswer, result: &mut [u8; TRAP_RESULT_SIZE]) -> u64
     ensures { λ r. ⌜ (r ≡ trapNumber answer) × (now (result .exit) ≡ bytesOf (trapKind answer ∷ noValues)) ⌝ }
 {
-    cores_layout::put_trap_result(result, answer.kind(), [0u64; 18]);
+    lent_cores::put_trap_result(result, answer.kind(), [0u64; 18]);
     answer.number()
 }
 
@@ -49,14 +49,14 @@ fn forward_call(
         × (now (cores .exit) ≡ trappedOne (now (cores .entry)) core step .state)
         × (now (result .exit) ≡ trappedOne (now (cores .entry)) core step .result) ⌝ }
 {
-    let counter = cores_layout::get_counter(cores);
+    let counter = lent_cores::get_counter(cores);
     let function_id = lent_core::get_gpr(cores, core, 0);
     let recipient = forwarded_call::recipient_of(function_id.value());
     let count = forwarded_call::registers_for(recipient);
     let forwarded = TrapAnswer::Forwarded(recipient);
     lent_core::put_forwarded(result, forwarded.kind(), cores, core, count);
     lent_core::put_wait(cores, core, Wait::Call(conduit, recipient));
-    cores_layout::put_counter(cores, counter);
+    lent_cores::put_counter(cores, counter);
     0
 }
 
@@ -69,11 +69,11 @@ fn try_memory_access_handler(
 ) -> Emulated
     ensures { λ r. ⌜ r ≡ tryMemoryAccess (regionsHeld (policyAt (now (policy .entry)))) (heldCore (now (cores .entry)) core) (counterAt (now (cores .entry))) trap ⌝ }
 {
-    let counter = cores_layout::get_counter(cores);
+    let counter = lent_cores::get_counter(cores);
     match data_abort::decode_abort(trap) {
         Decoded::Access(access) => {
             let ipa = access.ipa;
-            let found = policy_layout::find_region(policy, ipa);
+            let found = lent_policy::find_region(policy, ipa);
             let read = lent_core::get_gpr(cores, core, access.register_index);
             data_abort::emulate_access(found, access, read.value(), counter)
         }
@@ -101,13 +101,13 @@ fn inject_data_abort(
     if trap.vbar == 0 {
         return answer(TrapAnswer::Refused(CoreError::NoGuestVector), result);
     }
-    let counter = cores_layout::get_counter(cores);
+    let counter = lent_cores::get_counter(cores);
     let elr = lent_core::get_elr(cores, core);
     let spsr = lent_core::get_spsr(cores, core);
     let to = data_abort::injection_of(elr, spsr, trap);
     let el1 = to.el1;
     lent_core::put_return(cores, core, to.elr, to.spsr, el1);
-    cores_layout::put_counter(cores, counter);
+    lent_cores::put_counter(cores, counter);
     answer(TrapAnswer::AbortInjected, result)
 }
 
@@ -131,12 +131,12 @@ fn handle_data_abort(
     match outcome {
         AccessOutcome::Loaded(register_index, value) => {
             lent_core::put_load(cores, core, register_index, value);
-            cores_layout::put_counter(cores, emulated.counter);
+            lent_cores::put_counter(cores, emulated.counter);
             answer(TrapAnswer::AccessHandled(MemoryAccessKind::Read), result)
         }
         AccessOutcome::Stored => {
             lent_core::put_advanced(cores, core);
-            cores_layout::put_counter(cores, emulated.counter);
+            lent_cores::put_counter(cores, emulated.counter);
             answer(TrapAnswer::AccessHandled(MemoryAccessKind::Write), result)
         }
         AccessOutcome::Unhandled => inject_data_abort(cores, core, trap, result),

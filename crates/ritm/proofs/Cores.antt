@@ -18,8 +18,8 @@ use Rattle.forwarded_call.specs.ForwardedCall.{replyNumber, replyCore}
 use Rattle.hypervisor.specs.declared.CoreStep.{CoreStep}
 use Rattle.hypervisor.specs.Answers.{coreNumber, replyAnswer}
 use Rattle.hypervisor.specs.Cores.{onCore, saveCore, saveOn, replyOn, replyStep}
-use Rattle.words.specs.Words.{wordAt, wordsAt, Bytes}
-use Rattle.cores_layout.specs.Layout.{coresAt, withCore}
+use Rattle.lent_words.specs.Words.{wordAt, wordsAt, Bytes}
+use Rattle.lent_cores.specs.Layout.{coresAt, withCore}
 use Rattle.lent_core.proofs.InPlace.{gpr-kept}
 use Rattle.lent_trap.proofs.Laws.{same-core, replaced}
 use Rattle.lent_reply.specs.LentReply.{replyIn, repliedOne, repliedAny}

@@ -5,9 +5,9 @@ use mathlib.Core.List.{List, [], _∷_}
 use Rattle.lists.specs.Lists.{firstIndex}
 use Rattle.stage2_range.specs.Registry.{hasAddress, findRegion, foundValues}
 use Rattle.stage2.specs.Policy.{regionsHeld}
-use Rattle.words.specs.Words.{wordAt}
-use Rattle.policy_layout.specs.Layout.{regionAt, policyAt}
-use Rattle.policy_layout.proofs.Find.{region-here, region-nothing}
+use Rattle.lent_words.specs.Words.{wordAt}
+use Rattle.lent_policy.specs.Layout.{regionAt, policyAt}
+use Rattle.lent_policy.proofs.Find.{region-here, region-nothing}
 
 module _ (policy : List ℕ) (ipa k : ℕ) (e : k ≡ firstIndex (hasAddress ipa) (regionsHeld (policyAt policy))) where
   -- the place of a region that is held, and the offset in it

@@ -18,13 +18,13 @@ use Rattle.data_abort.specs.declared.TrapRegisters.{TrapRegisters}
 use Rattle.hypervisor.specs.declared.CoresStep.{CoresStep}
 use Rattle.hypervisor.specs.Answers.{coreNumber}
 use Rattle.hypervisor.specs.Cores.{noCore, saveOn, replyOn}
-use Rattle.words.specs.Words.{wordAt, wordsAt, bytesOf}
-pub use Rattle.words.specs.Words.{Left, unlessRefused}
+use Rattle.lent_words.specs.Words.{wordAt, wordsAt, bytesOf}
+pub use Rattle.lent_words.specs.Words.{Left, unlessRefused}
 unfoldable pub use Rattle.lent_trap.specs.LentTrap.{trapCall}
 use Rattle.lent_reply.specs.LentReply.{replyIn}
-use Rattle.policy_layout.specs.Layout.{policyAt, withAllowedOf, withRegionsOf}
-use Rattle.cores_layout.specs.Layout.{coresAt, withCore}
-use Rattle.map_layout.specs.Layout.{mapAt, withPlaces}
+use Rattle.lent_policy.specs.Layout.{policyAt, withAllowedOf, withRegionsOf}
+use Rattle.lent_cores.specs.Layout.{coresAt, withCore}
+use Rattle.lent_map.specs.Layout.{mapAt, withPlaces}
 
 -- the four numbers of `ritm_trap`
 abbrev pub trapRegisters : ℕ → ℕ → ℕ → ℕ → TrapRegisters

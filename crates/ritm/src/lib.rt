@@ -3,27 +3,27 @@
 ghost use mathlib.Core.Path.{_≡_};
 ghost use lib.ListN.{replicate};
 ghost use Rattle.hypervisor.specs.Cores.{freshCores};
-ghost use Rattle.policy_layout.specs.Layout.{policyAt};
-ghost use Rattle.cores_layout.specs.Layout.{coresAt, counterAt};
-ghost use Rattle.map_layout.specs.Layout.{mapAt};
+ghost use Rattle.lent_policy.specs.Layout.{policyAt};
+ghost use Rattle.lent_cores.specs.Layout.{coresAt, counterAt};
+ghost use Rattle.lent_map.specs.Layout.{mapAt};
 ghost use Rattle.simple_map.specs.Map.{emptyMap};
 ghost use Rattle.stage2.specs.Policy.{freshPolicy};
 ghost use Rattle.ritm.specs.Interface.{allowCall, handleCall, findCall, saveCall, replyCall, trapRegisters, trapCall, readCall, writeCall, insertCall, getCall, removeCall, decodeCall, extendCall, alignDownCall, alignUpCall, bufferSize};
-use cores_layout::CORES_SIZE;
-use cores_layout::REGISTERS_SIZE;
-use cores_layout::TRAP_RESULT_SIZE;
-use cores_layout::VALUES_SIZE;
 use data_abort::TrapRegisters;
 use hypervisor::CoreError;
-use map_layout::MAP_SIZE;
+use lent_cores::CORES_SIZE;
+use lent_cores::REGISTERS_SIZE;
+use lent_cores::TRAP_RESULT_SIZE;
+use lent_cores::VALUES_SIZE;
+use lent_map::MAP_SIZE;
+use lent_policy::POLICY_SIZE;
+use lent_words::ONE_WORD;
+use lent_words::SIX_WORDS;
+use lent_words::THREE_WORDS;
 use memory_access::Decoded;
 use memory_access::Fipa;
 use memory_access::MemoryAccess;
-use policy_layout::POLICY_SIZE;
 use simple_map::SuspendCoreData;
-use words::ONE_WORD;
-use words::SIX_WORDS;
-use words::THREE_WORDS;
 
 // No range, no region.
 #[no_mangle]
@@ -66,7 +66,7 @@ pub extern "C" fn ritm_allow_range(
     ensures { λ r. ⌜ (r ≡ allowCall (now (policy .entry)) «base_ipa» size attributes .number)
         × (now (policy .exit) ≡ allowCall (now (policy .entry)) «base_ipa» size attributes .state) ⌝ }
 {
-    policy_layout::allow_range(policy, base_ipa, size, attributes).number()
+    lent_policy::allow_range(policy, base_ipa, size, attributes).number()
 }
 
 // Has the guest's accesses to a range handled: refusals 20, 1 to 4, 6, 8, 9.
@@ -81,7 +81,7 @@ pub extern "C" fn ritm_handle_range(
     ensures { λ r. ⌜ (r ≡ handleCall (now (policy .entry)) «base_ipa» size read write .number)
         × (now (policy .exit) ≡ handleCall (now (policy .entry)) «base_ipa» size read write .state) ⌝ }
 {
-    policy_layout::handle_range(policy, base_ipa, size, read, write).number()
+    lent_policy::handle_range(policy, base_ipa, size, read, write).number()
 }
 
 // The first region held that has the address: whether there is one, its place and the offset in it.
@@ -94,14 +94,14 @@ pub extern "C" fn ritm_find(
     ensures { λ r. ⌜ (r ≡ findCall (now (policy .entry)) ipa .number)
         × (now (result .exit) ≡ findCall (now (policy .entry)) ipa .result) ⌝ }
 {
-    let place = policy_layout::find_place(policy, ipa);
-    let held = lists::held_count(policy_layout::get_region_count(policy), 16);
+    let place = lent_policy::find_place(policy, ipa);
+    let held = lists::held_count(lent_policy::get_region_count(policy), 16);
     if place < held {
-        let offset = ipa - policy_layout::get_region_base(policy, place);
-        words::put_three(result, 1, place, offset);
+        let offset = ipa - lent_policy::get_region_base(policy, place);
+        lent_words::put_three(result, 1, place, offset);
         return 0;
     }
-    words::put_three(result, 0, 0, 0);
+    lent_words::put_three(result, 0, 0, 0);
     0
 }
 
@@ -120,17 +120,17 @@ pub extern "C" fn ritm_save(
     if LAST_CORE < core {
         return CoreError::NoSuchCore.number();
     }
-    let x = cores_layout::get_saved_x(registers);
-    let elr = cores_layout::get_saved_elr(registers);
-    let spsr = cores_layout::get_saved_spsr(registers);
-    let step = hypervisor::save_core(cores_layout::get_core(cores, core), x, elr, spsr);
+    let x = lent_cores::get_saved_x(registers);
+    let elr = lent_cores::get_saved_elr(registers);
+    let spsr = lent_cores::get_saved_spsr(registers);
+    let step = hypervisor::save_core(lent_cores::get_core(cores, core), x, elr, spsr);
     let answer = step.answer;
     let number = answer.number();
     if number != 0 {
         return number;
     }
     let after = step.core;
-    cores_layout::put_core(cores, core, after);
+    lent_cores::put_core(cores, core, after);
     0
 }
 
@@ -187,11 +187,11 @@ pub extern "C" fn ritm_read_gpr(
         × (now (result .exit) ≡ readCall (now (cores .entry)) core index .result) ⌝ }
 {
     if LAST_CORE < core {
-        words::put_one_word(result, 0);
+        lent_words::put_one_word(result, 0);
         return CoreError::NoSuchCore.number();
     }
     let read = lent_core::get_gpr(cores, core, index as usize);
-    words::put_one_word(result, read.value());
+    lent_words::put_one_word(result, read.value());
     read.number()
 }
 
@@ -210,7 +210,7 @@ pub extern "C" fn ritm_write_gpr(
         return CoreError::NoSuchCore.number();
     }
     // A refusal stores the core as it stands: of bytes, that changes nothing.
-    words::are_bytes(cores);
+    lent_words::are_bytes(cores);
     lent_core::put_gpr(cores, core, index as usize, value).number()
 }
 
@@ -229,7 +229,7 @@ pub extern "C" fn ritm_insert(
         entry_point,
         context_id,
     };
-    map_layout::insert_entry(map, key, value).number()
+    lent_map::insert_entry(map, key, value).number()
 }
 
 // The entry of a key: whether there is one, its entry point and its context id.
@@ -238,7 +238,7 @@ pub extern "C" fn ritm_get(map: &[u8; MAP_SIZE], key: u64, result: &mut [u8; THR
     ensures { λ r. ⌜ (r ≡ getCall (now (map .entry)) key .number)
         × (now (result .exit) ≡ getCall (now (map .entry)) key .result) ⌝ }
 {
-    map_layout::put_lookup(result, map_layout::get_entry(map, key));
+    lent_map::put_lookup(result, lent_map::get_entry(map, key));
     0
 }
 
@@ -253,7 +253,7 @@ pub extern "C" fn ritm_remove(
         × (now (map .exit) ≡ removeCall (now (map .entry)) key .state)
         × (now (result .exit) ≡ removeCall (now (map .entry)) key .result) ⌝ }
 {
-    map_layout::put_lookup(result, map_layout::remove_entry(map, key));
+    lent_map::put_lookup(result, lent_map::remove_entry(map, key));
     0
 }
 
@@ -264,7 +264,7 @@ pub extern "C" fn ritm_decode(iss: u32, fipa: u64, far: u64, result: &mut [u8; S
         × (now (result .exit) ≡ decodeCall iss fipa far .result) ⌝ }
 {
     let decoded = MemoryAccess::decode(iss, Fipa(fipa), far);
-    words::put_six(result, decoded.values());
+    lent_words::put_six(result, decoded.values());
     decoded.number()
 }
 
@@ -276,11 +276,11 @@ pub extern "C" fn ritm_extend_read_result(iss: u32, value: u64, result: &mut [u8
 {
     match MemoryAccess::decode(iss, Fipa(0), 0) {
         Decoded::Access(access) => {
-            words::put_one_word(result, access.extend_read_result(value));
+            lent_words::put_one_word(result, access.extend_read_result(value));
             0
         }
         Decoded::NoSyndrome => {
-            words::put_one_word(result, 0);
+            lent_words::put_one_word(result, 0);
             Decoded::NoSyndrome.number()
         }
     }
@@ -292,7 +292,7 @@ pub extern "C" fn ritm_align_down_to_page(address: u64, result: &mut [u8; ONE_WO
     ensures { λ r. ⌜ (r ≡ alignDownCall address .number)
         × (now (result .exit) ≡ alignDownCall address .result) ⌝ }
 {
-    words::put_one_word(result, stage2_range::align_down_to_page(address));
+    lent_words::put_one_word(result, stage2_range::align_down_to_page(address));
     0
 }
 
@@ -303,7 +303,7 @@ pub extern "C" fn ritm_align_up_to_page(address: u64, result: &mut [u8; ONE_WORD
         × (now (result .exit) ≡ alignUpCall address .result) ⌝ }
 {
     let aligned = stage2_range::align_up_to_page(address);
-    words::put_one_word(result, aligned.value());
+    lent_words::put_one_word(result, aligned.value());
     aligned.number()
 }
 

@@ -2,7 +2,7 @@ use borrow.Author.Needs.{needs}
 use mathlib.Core.Path.{sym, _∙_}
 use Rattle.exceptions.specs.declared.Core.{Core}
 use Rattle.exceptions.specs.Registers.{freshCore}
-use Rattle.cores_layout.specs.Layout.{coreAt}
+use Rattle.lent_cores.specs.Layout.{coreAt}
 use Rattle.lent_core.proofs.InPlace.{of-core}
 use Rattle.lent_core.proofs.get_elr.Statement.{statement}
 use Rattle.lent_core.proofs.get_elr.Tie as tie

@@ -3,10 +3,10 @@ use Prim.Native.Nat.{_+_, _*_}
 use mathlib.Core.Path.{sym, ap, _∙_}
 use lib.Dec.{ltb}
 use Rattle.lists.proofs.Laws.{cond-map}
-use Rattle.words.specs.Words.{wordAt}
+use Rattle.lent_words.specs.Words.{wordAt}
 use Rattle.exceptions.specs.declared.Core.{Core}
 use Rattle.exceptions.specs.Registers.{freshCore}
-use Rattle.cores_layout.specs.Layout.{waitByCode, coreAt}
+use Rattle.lent_cores.specs.Layout.{waitByCode, coreAt}
 use Rattle.lent_core.proofs.InPlace.{of-core}
 use Rattle.lent_core.proofs.get_wait.Statement.{statement}
 use Rattle.lent_core.proofs.get_wait.Tie as tie

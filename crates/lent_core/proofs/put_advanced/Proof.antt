@@ -4,7 +4,7 @@ use mathlib.Core.Path.{refl}
 use mathlib.Core.List.{[], _∷_}
 use native.Mathlib.Omega.{arith}
 use Rattle.exceptions.specs.Registers.{advancePc}
-use Rattle.cores_layout.specs.Layout.{coreAt}
+use Rattle.lent_cores.specs.Layout.{coreAt}
 use Rattle.lent_core.proofs.InPlace.{any-put}
 use Rattle.lent_core.proofs.put_advanced.Statement.{statement}
 use Rattle.lent_core.proofs.put_advanced.Tie as tie

@@ -3,8 +3,8 @@ use borrow.Author.Needs.{needs}
 use Prim.Native.Nat.{_+_, _-_}
 use mathlib.Core.Path.{refl, ap, _∙_}
 use mathlib.Core.List.{[], _∷_}
-use Rattle.words.specs.Words.{withWord}
-use Rattle.words.proofs.Words.{written-whole, Stored, stored-next, stored-done, store-later}
+use Rattle.lent_words.specs.Words.{withWord}
+use Rattle.lent_words.proofs.Words.{written-whole, Stored, stored-next, stored-done, store-later}
 use Rattle.lent_core.proofs.InPlace.{firstValues, length-first}
 use Rattle.lent_core.proofs.put_forwarded.Statement.{statement}
 use Rattle.lent_core.proofs.put_forwarded.Tie as tie

@@ -4,7 +4,7 @@ use mathlib.Core.List.{[], _∷_}
 use native.Mathlib.Omega.{arith}
 use borrow.Author.Tests.{lt-ltb, le-ltb}
 use Rattle.exceptions.specs.Registers.{withReturn}
-use Rattle.cores_layout.specs.Layout.{coreAt}
+use Rattle.lent_cores.specs.Layout.{coreAt}
 use Rattle.lent_core.proofs.InPlace.{core-put}
 use Rattle.lent_core.proofs.put_return.Statement.{statement}
 use Rattle.lent_core.proofs.put_return.Tie as tie

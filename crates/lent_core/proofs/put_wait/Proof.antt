@@ -4,9 +4,9 @@ use mathlib.Core.Path.{refl}
 use mathlib.Core.List.{[], _∷_}
 use native.Mathlib.Omega.{arith}
 use borrow.Author.Tests.{lt-ltb, le-ltb}
-use Rattle.words.specs.Words.{wordAt, keptCode}
+use Rattle.lent_words.specs.Words.{wordAt, keptCode}
 use Rattle.forwarded_call.specs.ForwardedCall.{withWait}
-use Rattle.cores_layout.specs.Layout.{waitNumber, coreAt}
+use Rattle.lent_cores.specs.Layout.{waitNumber, coreAt}
 use Rattle.lent_core.proofs.InPlace.{core-put}
 use Rattle.lent_core.proofs.put_wait.Statement.{statement}
 use Rattle.lent_core.proofs.put_wait.Tie as tie

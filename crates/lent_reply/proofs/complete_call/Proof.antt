@@ -2,7 +2,7 @@ use mathlib.Core.Path.{_≡_, ap, _∙_}
 use mir.Syntax.{w32}
 use mir.ValLaws.{toZ-ofZ}
 use Rattle.hvc_response.specs.Response.{resultOfKind}
-use Rattle.words.specs.Words.{wordAt}
+use Rattle.lent_words.specs.Words.{wordAt}
 use Rattle.forwarded_call.specs.ForwardedCall.{completeCall}
 use borrow.Author.Needs.{needs}
 use Rattle.lent_reply.proofs.complete_call.Statement.{statement}

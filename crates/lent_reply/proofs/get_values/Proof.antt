@@ -1,6 +1,6 @@
 use native.Mathlib.Omega.{arith}
-use Rattle.words.specs.Words.{wordAt}
-use Rattle.words.proofs.Words.{Read, read-next, read-done}
+use Rattle.lent_words.specs.Words.{wordAt}
+use Rattle.lent_words.proofs.Words.{Read, read-next, read-done}
 use Prim.Native.Nat.{_-_, _+_}
 use mathlib.Core.Path.{refl}
 use Rattle.lent_reply.proofs.get_values.Statement.{statement}

@@ -1,8 +1,8 @@
 use native.Mathlib.Omega.{arith}
 use Prim.Native.Nat.{_-_, _+_, _≤_}
 use mathlib.Core.Path.{_≡_, refl}
-use Rattle.words.specs.Words.{withWord}
-use Rattle.words.proofs.Words.{Stored, stored-next}
+use Rattle.lent_words.specs.Words.{withWord}
+use Rattle.lent_words.proofs.Words.{Stored, stored-next}
 use Rattle.lent_reply.proofs.put_values.Statement.{statement}
 use Rattle.lent_reply.proofs.put_values.Tie as tie
 

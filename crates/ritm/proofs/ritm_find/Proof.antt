@@ -3,7 +3,7 @@ use native.Mathlib.Omega.{arith}
 use mathlib.Core.Path.{refl}
 use borrow.Author.Tests.{lt-ltb}
 use Rattle.ritm.specs.Interface.{findCall}
-use Rattle.policy_layout.proofs.Find.{base-below}
+use Rattle.lent_policy.proofs.Find.{base-below}
 use Rattle.ritm.proofs.Find.{found-here, found-nothing}
 use Rattle.ritm.proofs.ritm_find.Statement.{statement}
 use Rattle.ritm.proofs.ritm_find.Tie as tie

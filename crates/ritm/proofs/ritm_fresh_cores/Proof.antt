@@ -1,6 +1,6 @@
 use mathlib.Core.Path.{refl}
 use Rattle.hypervisor.specs.Cores.{freshCores}
-use Rattle.cores_layout.proofs.States.{fresh-cores, fresh-counter}
+use Rattle.lent_cores.proofs.States.{fresh-cores, fresh-counter}
 use Rattle.ritm.proofs.ritm_fresh_cores.Statement.{statement}
 use Rattle.ritm.proofs.ritm_fresh_cores.Tie as tie
 

@@ -1,5 +1,5 @@
 use mathlib.Core.Path.{refl}
-use Rattle.map_layout.proofs.States.{fresh-map}
+use Rattle.lent_map.proofs.States.{fresh-map}
 use Rattle.ritm.proofs.ritm_fresh_map.Statement.{statement}
 use Rattle.ritm.proofs.ritm_fresh_map.Tie as tie
 

@@ -1,5 +1,5 @@
 use mathlib.Core.Path.{refl}
-use Rattle.policy_layout.proofs.States.{fresh-policy}
+use Rattle.lent_policy.proofs.States.{fresh-policy}
 use Rattle.ritm.proofs.ritm_fresh_policy.Statement.{statement}
 use Rattle.ritm.proofs.ritm_fresh_policy.Tie as tie
 

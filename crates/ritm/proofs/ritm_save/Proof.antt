@@ -5,7 +5,7 @@ use native.Mathlib.Omega.{arith}
 use mathlib.Core.Path.{sym, ap, _∙_}
 use Rattle.ritm.proofs.Cores.{step-none, save-by, when-refused, when-accepted}
 use borrow.Author.Tests.{le-ltb}
-use Rattle.words.specs.Words.{wordAt, wordsAt}
+use Rattle.lent_words.specs.Words.{wordAt, wordsAt}
 use Rattle.ritm.proofs.ritm_save.Statement.{statement}
 use Rattle.ritm.proofs.ritm_save.Tie as tie
 

@@ -1,0 +1,56 @@
+use native.Mathlib.Omega.{arith}
+use Rattle.lent_words.specs.Words.{wordAt}
+use Rattle.lent_words.proofs.Words.{Read, read-next, read-done}
+use Prim.Native.Nat.{_-_, _+_}
+use mathlib.Core.Path.{refl}
+use Rattle.lent_cores.proofs.get_x.Statement.{statement}
+use Rattle.lent_cores.proofs.get_x.Tie as tie
+
+abbrev Inv-loop : tie.InvT-loop
+Inv-loop bytes from x₀ i₀ x i = Read (λ j. wordAt bytes (from + j)) 31 x i
+
+abbrev μ-loop : tie.MeasureT-loop
+μ-loop bytes from x₀ i₀ x i = 31 - i
+
+loop-holds : tie.Need-loop-holds Inv-loop μ-loop
+loop-holds c = record { within = omega arith; long = refl; done = refl }
+
+add-get-word : tie.Need-add-get-word Inv-loop μ-loop
+add-get-word c = omega arith
+
+get-word-requires : tie.Need-get-word-requires Inv-loop μ-loop
+get-word-requires c κs = omega arith
+
+mul-x : tie.Need-mul-x Inv-loop μ-loop
+mul-x c = omega arith
+
+array-write-x : tie.Need-array-write-x Inv-loop μ-loop
+array-write-x c = omega arith
+
+add-i : tie.Need-add-i Inv-loop μ-loop
+add-i c = omega arith
+
+loop-less : tie.Need-loop-less Inv-loop μ-loop
+loop-less c = omega arith
+
+loop-again : tie.Need-loop-again Inv-loop μ-loop
+loop-again c = read-next (c .before .before .loop .inv) (omega arith) _ (c .get-word .ensures)
+
+returns : tie.Need-returns Inv-loop μ-loop
+returns c = read-done (c .before .loop .inv) (omega arith)
+
+pub get-x-spec : {M : Type 1} → statement M
+get-x-spec =
+    tie.close
+    (tie.spec
+    Inv-loop
+    μ-loop
+    loop-holds
+    add-get-word
+    get-word-requires
+    mul-x
+    array-write-x
+    add-i
+    loop-less
+    loop-again
+    returns)

@@ -1,0 +1,67 @@
+use native.Mathlib.Omega.{arith}
+use borrow.Author.Needs.{needs}
+use Prim.Native.Nat.{_-_}
+use mathlib.Core.Path.{refl, _∙_}
+use mathlib.Core.List.{[], _∷_}
+use Rattle.lent_words.specs.Words.{withWord}
+use Rattle.lent_words.proofs.Words.{written-whole, Stored, stored-next, stored-done}
+use Rattle.lent_words.proofs.Words.{store-later}
+use Prim.Native.Nat.{_+_}
+use Rattle.lent_cores.proofs.put_trap_result.Statement.{statement}
+use Rattle.lent_cores.proofs.put_trap_result.Tie as tie
+
+abbrev Inv-loop : tie.InvT-loop
+Inv-loop result₀ kind values i₀ result i = Stored (λ b j w. withWord b (j + 1) w) result₀ values result i
+
+abbrev μ-loop : tie.MeasureT-loop
+μ-loop result₀ kind values i₀ result i = 18 - i
+
+put-word-requires : tie.Need-put-word-requires Inv-loop μ-loop
+put-word-requires c κs = search needs
+
+loop-holds : tie.Need-loop-holds Inv-loop μ-loop
+loop-holds c = record { within = omega arith; done = refl }
+
+add-put-word : tie.Need-add-put-word Inv-loop μ-loop
+add-put-word c = omega arith
+
+mul-put-word : tie.Need-mul-put-word Inv-loop μ-loop
+mul-put-word c = omega arith
+
+array-read-put-word : tie.Need-array-read-put-word Inv-loop μ-loop
+array-read-put-word c = omega arith
+
+put-word-requires-2 : tie.Need-put-word-requires-2 Inv-loop μ-loop
+put-word-requires-2 c κs = omega arith
+
+add-i : tie.Need-add-i Inv-loop μ-loop
+add-i c = omega arith
+
+loop-less : tie.Need-loop-less Inv-loop μ-loop
+loop-less c = omega arith
+
+loop-again : tie.Need-loop-again Inv-loop μ-loop
+loop-again c = stored-next (c .before .before .before .loop .inv) (omega arith) 0 _ (c .put-word2 .ensures)
+
+returns : tie.Need-returns Inv-loop μ-loop
+returns c = let a = c .before .before .before .before .args in
+    stored-done (c .before .loop .inv) (omega arith)
+    ∙ store-later withWord _ 0 (a .t3)
+    ∙ rw (c .before .before .put-word .ensures) (written-whole (a .kind ∷ a .t3) [] _ 0 refl (search needs))
+
+pub put-trap-result-spec : {M : Type 1} → statement M
+put-trap-result-spec =
+    tie.close
+    (tie.spec
+    Inv-loop
+    μ-loop
+    put-word-requires
+    loop-holds
+    add-put-word
+    mul-put-word
+    array-read-put-word
+    put-word-requires-2
+    add-i
+    loop-less
+    loop-again
+    returns)

@@ -1,0 +1,194 @@
+// Where the bytes that a host lends hold the cores, the counter, and what goes into a core's calls and comes out: little-endian 64-bit words at fixed
+// places. Any bytes are eight cores.
+ghost use mathlib.Core.Path.{_≡_};
+ghost use mathlib.Core.List.{_∷_};
+ghost use Prim.Native.Nat.{_+_, _≤_, _<_};
+ghost use Rattle.lent_words.specs.Words.{wordAt, wordsAt, withWord, withWords, storeEach, bytesOf};
+ghost use Rattle.lent_cores.specs.Layout.{faultWords, waitByCode, waitNumber, coreAt, heldCore, storedCore, counterAt, withCore, withCounter};
+use exceptions::Conduit;
+use exceptions::Core;
+use exceptions::FaultRegisters;
+use exceptions::Recipient;
+use exceptions::Wait;
+
+// The lengths of the lent buffers, in bytes.
+pub const CORES_SIZE: usize = 2440;
+
+pub const REGISTERS_SIZE: usize = 264;
+
+pub const VALUES_SIZE: usize = 144;
+
+pub const TRAP_RESULT_SIZE: usize = 152;
+
+// What a core waits for, by its code.
+pub fn wait_of(code: u64) -> Wait
+    ensures { λ r. ⌜ r ≡ waitByCode code ⌝ }
+{
+    match code {
+        1 => Wait::Call(Conduit::Hvc, Recipient::Firmware),
+        2 => Wait::Call(Conduit::Hvc, Recipient::Platform),
+        3 => Wait::Call(Conduit::Smc, Recipient::Firmware),
+        4 => Wait::Call(Conduit::Smc, Recipient::Platform),
+        _ => Wait::Nothing,
+    }
+}
+
+// The code of what a core waits for.
+pub fn wait_number(wait: Wait) -> u64
+    ensures { λ r. ⌜ r ≡ waitNumber wait ⌝ }
+{
+    match wait {
+        Wait::Nothing => 0,
+        Wait::Call(conduit, recipient) => match conduit {
+            Conduit::Hvc => match recipient {
+                Recipient::Firmware => 1,
+                Recipient::Platform => 2,
+            },
+            Conduit::Smc => match recipient {
+                Recipient::Firmware => 3,
+                Recipient::Platform => 4,
+            },
+        },
+    }
+}
+
+// x0 to x30, from a place on.
+fn get_x(bytes: &[u8], from: usize) -> [u64; 31]
+    requires { ⌜ from ≤ 266 ⌝ }
+    ensures { λ r. ⌜ r ≡ wordsAt (now (bytes .entry)) from 31 ⌝ }
+{
+    let mut x = [0u64; 31];
+    let mut i: usize = 0;
+    while i < 31 {
+        x[i] = lent_words::get_word(bytes, from + i);
+        i += 1;
+    }
+    x
+}
+
+// The core, and a fresh one where there is no core of that number.
+pub fn get_core(cores: &[u8; CORES_SIZE], core: u64) -> Core
+    ensures { λ r. ⌜ r ≡ heldCore (now (cores .entry)) core ⌝ }
+{
+    if 8 <= core {
+        return Core::fresh();
+    }
+    get_one(cores, core as usize)
+}
+
+// One of the eight cores.
+fn get_one(cores: &[u8; CORES_SIZE], core: usize) -> Core
+    requires { ⌜ core < 8 ⌝ }
+    ensures { λ r. ⌜ r ≡ coreAt (now (cores .entry)) core ⌝ }
+{
+    let at = 38 * core;
+    let el1 = FaultRegisters {
+        elr: lent_words::get_word(cores, at + 33),
+        spsr: lent_words::get_word(cores, at + 34),
+        far: lent_words::get_word(cores, at + 35),
+        esr: lent_words::get_word(cores, at + 36),
+    };
+    Core {
+        x: get_x(cores, at),
+        elr: lent_words::get_word(cores, at + 31),
+        spsr: lent_words::get_word(cores, at + 32),
+        el1,
+        wait: wait_of(lent_words::get_word(cores, at + 37)),
+    }
+}
+
+// Stores x0 to x30, from a place on.
+fn put_x(bytes: &mut [u8], from: usize, x: [u64; 31])
+    requires { ⌜ from ≤ 266 ⌝ }
+    ensures { λ _. ⌜ now (bytes .exit) ≡ withWords (now (bytes .entry)) from x ⌝ }
+{
+    let mut i: usize = 0;
+    while i < 31 {
+        lent_words::put_word(bytes, from + i, x[i]);
+        i += 1;
+    }
+}
+
+// The EL1 registers of the core that stands from a place on.
+fn put_el1(cores: &mut [u8; CORES_SIZE], at: usize, el1: FaultRegisters)
+    requires { ⌜ at ≤ 266 ⌝ }
+    ensures { λ _. ⌜ now (cores .exit) ≡ storeEach (λ b j w. withWord b (at + j) w) (now (cores .entry)) 33 (faultWords el1) ⌝ }
+{
+    lent_words::put_word(cores, at + 33, el1.elr);
+    lent_words::put_word(cores, at + 34, el1.spsr);
+    lent_words::put_word(cores, at + 35, el1.far);
+    lent_words::put_word(cores, at + 36, el1.esr);
+}
+
+// Stores a core, and nothing where there is no core of that number.
+pub fn put_core(cores: &mut [u8; CORES_SIZE], core: u64, value: Core)
+    ensures { λ _. ⌜ now (cores .exit) ≡ storedCore (now (cores .entry)) core value ⌝ }
+{
+    if core < 8 {
+        put_one(cores, core as usize, value);
+    }
+}
+
+// Stores one of the eight cores.
+fn put_one(cores: &mut [u8; CORES_SIZE], core: usize, value: Core)
+    requires { ⌜ core < 8 ⌝ }
+    ensures { λ _. ⌜ now (cores .exit) ≡ withCore (now (cores .entry)) core value ⌝ }
+{
+    let at = 38 * core;
+    let x = value.x;
+    let el1 = value.el1;
+    let wait = value.wait;
+    let code = lent_words::kept_code(lent_words::get_word(cores, at + 37), 5, wait_number(wait));
+    put_x(cores, at, x);
+    lent_words::put_word(cores, at + 31, value.elr);
+    lent_words::put_word(cores, at + 32, value.spsr);
+    put_el1(cores, at, el1);
+    lent_words::put_word(cores, at + 37, code);
+}
+
+// The counter of the filtered MMIO page.
+pub fn get_counter(cores: &[u8; CORES_SIZE]) -> u64
+    ensures { λ r. ⌜ r ≡ counterAt (now (cores .entry)) ⌝ }
+{
+    lent_words::get_word(cores, 304)
+}
+
+// Stores the counter.
+pub fn put_counter(cores: &mut [u8; CORES_SIZE], counter: u64)
+    ensures { λ _. ⌜ now (cores .exit) ≡ withCounter (now (cores .entry)) counter ⌝ }
+{
+    lent_words::put_word(cores, 304, counter);
+}
+
+// x0 to x30 as the hardware saved them.
+pub fn get_saved_x(registers: &[u8; REGISTERS_SIZE]) -> [u64; 31]
+    ensures { λ r. ⌜ r ≡ wordsAt (now (registers .entry)) 0 31 ⌝ }
+{
+    get_x(registers, 0)
+}
+
+// ELR as the hardware saved it.
+pub fn get_saved_elr(registers: &[u8; REGISTERS_SIZE]) -> u64
+    ensures { λ r. ⌜ r ≡ wordAt (now (registers .entry)) 31 ⌝ }
+{
+    lent_words::get_word(registers, 31)
+}
+
+// SPSR as the hardware saved it.
+pub fn get_saved_spsr(registers: &[u8; REGISTERS_SIZE]) -> u64
+    ensures { λ r. ⌜ r ≡ wordAt (now (registers .entry)) 32 ⌝ }
+{
+    lent_words::get_word(registers, 32)
+}
+
+// The result of a trap: its kind, and the values of a forwarded call.
+pub fn put_trap_result(result: &mut [u8; TRAP_RESULT_SIZE], kind: u64, values: [u64; 18])
+    ensures { λ _. ⌜ now (result .exit) ≡ bytesOf (kind ∷ values) ⌝ }
+{
+    lent_words::put_word(result, 0, kind);
+    let mut i: usize = 0;
+    while i < 18 {
+        lent_words::put_word(result, i + 1, values[i]);
+        i += 1;
+    }
+}

@@ -1,0 +1,53 @@
+use borrow.Author.Needs.{needs}
+use native.Mathlib.Nat.{add-zero}
+use Rattle.lent_policy.specs.Layout.{withRange}
+use Rattle.lent_policy.proofs.put_range.Statement.{statement}
+use Rattle.lent_policy.proofs.put_range.Tie as tie
+
+mul-at : tie.Need-mul-at
+mul-at c = search needs
+
+put-word-requires : tie.Need-put-word-requires
+put-word-requires c κs = search needs
+
+add-put-word : tie.Need-add-put-word
+add-put-word c = search needs
+
+put-word-requires-2 : tie.Need-put-word-requires-2
+put-word-requires-2 c κs = search needs
+
+add-put-word-2 : tie.Need-add-put-word-2
+add-put-word-2 c = search needs
+
+put-word-requires-3 : tie.Need-put-word-requires-3
+put-word-requires-3 c κs = search needs
+
+add-put-word-3 : tie.Need-add-put-word-3
+add-put-word-3 c = search needs
+
+put-word-requires-4 : tie.Need-put-word-requires-4
+put-word-requires-4 c κs = search needs
+
+returns : tie.Need-returns
+unfolding withRange
+returns c = rw (
+  c .put-word4 .ensures,
+  c .before .before .put-word3 .ensures,
+  c .before .before .before .before .put-word2 .ensures,
+  c .before .before .before .before .before .before .put-word .ensures,
+  add-zero,
+)
+
+pub put-range-spec : {M : Type 1} → statement M
+put-range-spec =
+    tie.close
+    (tie.spec
+    mul-at
+    put-word-requires
+    add-put-word
+    put-word-requires-2
+    add-put-word-2
+    put-word-requires-3
+    add-put-word-3
+    put-word-requires-4
+    returns)
