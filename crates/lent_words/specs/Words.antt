@@ -79,6 +79,10 @@ pub record Left : Type 0 where
   pub state : List ℕ
   pub result : List ℕ
 
+-- it returned this number, and left this state and this result
+abbrev pub Leaves : Left → ℕ → List ℕ → List ℕ → Type 0
+Leaves left number state result = (number ≡ left .number) × (state ≡ left .state) × (result ≡ left .result)
+
 -- "A refusal .. all state is as before"
 abbrev pub unlessRefused : ℕ → List ℕ → List ℕ → List ℕ
 unlessRefused number before after = cond (eqb number 0) after before
