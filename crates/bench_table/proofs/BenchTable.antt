@@ -2,26 +2,26 @@
 use mathlib.Core.Path.{_≡_, refl}
 use mathlib.Core.Bool.{true}
 use Rattle.lists.specs.Lists.{held}
-use Rattle.memory_access.specs.Syndrome.{bitsAt, bitAt, faultIpa, decodeAccess}
-use Rattle.memory_access.specs.Transfer.{lowBits, signExtend, loaded, atRegisterWidth, extendReadResult}
+use Rattle.memory_access.specs.Syndrome.{faultIpa, decodeAccess}
+use Rattle.memory_access.specs.Transfer.{signExtend, loaded, atRegisterWidth, extendReadResult}
 use Rattle.stage2_range.specs.Ranges.{validateRange, sharesByte, overlapsAllowed}
 use Rattle.stage2_range.specs.Registry.{overlapsRegions, findRegion, insertRegion, registerAnswer}
 use Rattle.stage2.specs.Policy.{freshPolicy, allowAnswerFor, addAllowed, allowRange, handleAnswerFor, addRegion, handleRange}
 use Rattle.exceptions.specs.Registers.{freshCore, withRegisters, advancePc}
 use Rattle.hvc_response.specs.Response.{response, withFirst, resultOfKind}
-use Rattle.data_abort.specs.DataAbort.{injectionDue, withEc, injected, injectDataAbort, handleDataAbort}
-use Rattle.forwarded_call.specs.ForwardedCall.{recipientOf, withWait, forwardCall, mayReply, resumed, completeCall, replyCore}
-use Rattle.hypervisor.specs.Answers.{answered}
+use Rattle.data_abort.specs.DataAbort.{injectionDue, injected, injectDataAbort, handleDataAbort}
+use Rattle.forwarded_call.specs.ForwardedCall.{recipientOf, withWait, forwardCall, mayReply, resumed, decideReply, replyCore}
 use Rattle.hypervisor.specs.Trap.{exceptionClass, byClass, handleSyncLower}
 use Rattle.hypervisor.specs.Cores.{freshCores, saveCore, onCore, saveOn, replyOn, trapOn}
 use Rattle.bench_table.specs.States.{oneRegion, savedCores, trapped, replied}
 use Rattle.bench_table.specs.BenchTable.{holds, benchTable}
+use Rattle.bits.specs.Bits.{bitAt, bitsAt, lowBits, withBits}
 
 pub bench-table-holds : holds benchTable ≡ true
 unfolding
     held bitsAt bitAt faultIpa decodeAccess lowBits signExtend loaded atRegisterWidth extendReadResult validateRange sharesByte
     overlapsAllowed overlapsRegions findRegion insertRegion registerAnswer freshPolicy allowAnswerFor addAllowed allowRange
-    handleAnswerFor addRegion handleRange freshCore withRegisters response withFirst resultOfKind advancePc injectionDue withEc
-    injected injectDataAbort handleDataAbort answered exceptionClass recipientOf withWait forwardCall byClass handleSyncLower
-    freshCores saveCore mayReply resumed completeCall replyCore onCore saveOn replyOn trapOn oneRegion savedCores trapped replied
+    handleAnswerFor addRegion handleRange freshCore withRegisters response withFirst resultOfKind advancePc injectionDue withBits
+    injected injectDataAbort handleDataAbort exceptionClass recipientOf withWait forwardCall byClass handleSyncLower
+    freshCores saveCore mayReply resumed decideReply replyCore onCore saveOn replyOn trapOn oneRegion savedCores trapped replied
 bench-table-holds = refl

@@ -14,8 +14,8 @@ use Rattle.stage2_range.specs.Registry.{hasAddress, findRegion, foundValues}
 use Rattle.stage2.specs.Policy.{freshPolicy, regionsHeld}
 use Rattle.stage2.specs.Builds.{BuilderCall, allow, handle, build, buildAll}
 use Rattle.exceptions.specs.declared.Core.{Core}
-use Rattle.hypervisor.specs.Answers.{coreNumber, trapKind}
-use Rattle.hypervisor.specs.Cores.{noCore}
+use Rattle.exceptions.specs.Registers.{coreOf}
+use Rattle.core_answers.specs.Answers.{coreNumber, trapKind}
 use Rattle.bench_table.specs.States.{load, oneRegion, trapAt, trapped, replied}
 
 -- a row: the numbers that the definitions give, and those of the document
@@ -77,18 +77,18 @@ smc = 0x5C000000
 
 -- core 0, which was saved with ELR 0x1000 and SPSR 5 and then trapped
 abbrev pub core0 : List Core → Core
-core0 cores = getD cores 0 noCore
+core0 cores = coreOf cores 0
 
 -- after a trap with no region: which answer it is (3: abort injected), ESR_EL1, ELR, SPSR_EL1
 abbrev pub abort : ℕ → ℕ → List ℕ
 abort esr vbar =
     let step = trapped 0 (trapAt esr vbar) in
     let core = core0 (step .cores) in
-    trapKind (step .answer) ∷ core .el1 .esr ∷ core .elr ∷ core .el1 .spsr ∷ []
+    trapKind (step .result .answer) ∷ core .el1 .esr ∷ core .elr ∷ core .el1 .spsr ∷ []
 
 -- which answer the trap of a call is: 4 to the firmware, 5 to the platform. All registers hold the same value as x0.
 abbrev pub call : ℕ → ℕ → ℕ
-call esr x0 = trapKind (trapped x0 (trapAt esr 0) .answer)
+call esr x0 = trapKind (trapped x0 (trapAt esr 0) .result .answer)
 
 -- after the reply to that call, of this kind and with the value 7: the number of the reply's answer, ELR, x0 to x4
 abbrev pub reply : ℕ → ℕ → ℕ → List ℕ

@@ -14,7 +14,7 @@ use Rattle.memory_access.specs.declared.MemoryAccessKind.{MemoryAccessKind}
 use Rattle.memory_access.specs.declared.MemoryAccessKind.the-variants.{Read, Write}
 use Rattle.memory_access.specs.Syndrome.{isv, sas, wnr, widthOf, kindOf}
 use Rattle.memory_access.specs.Transfer.{extendReadResult}
-use Rattle.memory_access.proofs.Laws.{field-fits}
+use Rattle.bits.proofs.Laws.{field-fits}
 use Rattle.stage2_range.specs.declared.MemoryAccessRegion.{MemoryAccessRegion}
 use Rattle.stage2_range.specs.declared.MemoryAccessHandlerMatch.{MemoryAccessHandlerMatch}
 use Rattle.stage2_range.specs.declared.MemoryHandler.{MemoryHandler}
@@ -28,8 +28,9 @@ use Rattle.exceptions.specs.declared.Core.{Core}
 use Rattle.exceptions.specs.Registers.{advancePc, readGpr, readValue, writeGpr}
 use Rattle.qemu.specs.FilteredMmio.{is64, loadsCounter, readFilteredMmio}
 use Rattle.qemu.proofs.Laws.{counter-loaded, counter-kept}
-use Rattle.data_abort.specs.declared.AbortAnswer.the-variants.{Handled}
-use Rattle.data_abort.specs.declared.AbortStep.{AbortStep}
+use Rattle.core_answers.specs.declared.TrapAnswer.the-variants.{AccessHandled}
+use Rattle.core_answers.specs.declared.TrapStep.{TrapStep}
+use Rattle.core_answers.specs.Answers.{answered}
 use Rattle.data_abort.specs.declared.TrapRegisters.{TrapRegisters}
 use Rattle.data_abort.specs.DataAbort.{iss, accessBy, offsetIn, isAbsent, pageRead, isReadFault, deviceFault, notHandled, injectionDue, wordRead, handled, injectDataAbort, handleDataAbort}
 use Rattle.data_abort.specs.CounterLoad.{CounterLoad}
@@ -38,11 +39,8 @@ use Rattle.data_abort.specs.CounterLoad.{CounterLoad}
 pub counter-answered : (regions : List MemoryAccessRegion) (core : Core) (counter : ℕ) (trap : TrapRegisters) → CounterLoad regions trap →
     let access = accessBy trap in
     handleDataAbort regions core counter trap
-    ≡ record {
-      answer = Handled Read;
-      core = advancePc (writeGpr core (access .«register_index») (extendReadResult access counter) .core);
-      counter = (counter + 1) % 2 ^ 64;
-    }
+    ≡ answered (AccessHandled Read) (advancePc (writeGpr core (access .«register_index») (extendReadResult access counter) .core))
+    ((counter + 1) % 2 ^ 64)
 unfolding handleDataAbort injectionDue loadsCounter
 counter-answered regions core counter trap l =
     let access = accessBy trap in
@@ -50,10 +48,10 @@ counter-answered regions core counter trap l =
     rw (l .isv-set, l .is-found, l .wnr-clear, l .reads-page, counter-loaded (pageRead access (l .found .offset)) counter of-counter)
 
 -- A step that does not depend on the counter, and leaves it.
-abbrev Steady : (ℕ → AbortStep) → Type 0
-Steady f = (counter counter′ : ℕ) → f counter ≡ record { answer = f counter′ .answer; core = f counter′ .core; counter = counter }
+abbrev Steady : (ℕ → TrapStep) → Type 0
+Steady f = (counter counter′ : ℕ) → f counter ≡ record { result = f counter′ .result; core = f counter′ .core; counter = counter }
 
-cond-steady : (b : Bool) (f g : ℕ → AbortStep) → Steady f → Steady g → Steady (λ counter. cond b (f counter) (g counter))
+cond-steady : (b : Bool) (f g : ℕ → TrapStep) → Steady f → Steady g → Steady (λ counter. cond b (f counter) (g counter))
 cond-steady true f g s t = s
 cond-steady false f g s t = t
 
@@ -74,20 +72,20 @@ module _ (regions : List MemoryAccessRegion) (core : Core) (trap : TrapRegisters
   access = accessBy trap
 
   -- a load's step, by what the page gives and the counter after it
-  abbrev loadStep : MemoryReadResult → ℕ → ℕ → AbortStep
+  abbrev loadStep : MemoryReadResult → ℕ → ℕ → TrapStep
   loadStep result after counter =
       let value = extendReadResult access (wordRead result) in
       cond (isReadFault result) (injectDataAbort core counter trap)
-      (record { answer = Handled Read; core = advancePc (writeGpr core (access .«register_index») value .core); counter = after })
+      (answered (AccessHandled Read) (advancePc (writeGpr core (access .«register_index») value .core)) after)
 
   load-steady : (result : MemoryReadResult) (after after′ counter counter′ : ℕ) → after ≡ counter
       → loadStep result after counter
-      ≡ record { answer = loadStep result after′ counter′ .answer; core = loadStep result after′ counter′ .core; counter = counter }
+      ≡ record { result = loadStep result after′ counter′ .result; core = loadStep result after′ counter′ .core; counter = counter }
   load-steady (read.Value value) after after′ counter counter′ e = rw e
   load-steady read.Fault after after′ counter counter′ e = inject-steady core trap counter counter′
 
   -- the step of a valid syndrome, by the direction and the region found
-  abbrev stepOf : MemoryAccessKind → RegionFound → ℕ → AbortStep
+  abbrev stepOf : MemoryAccessKind → RegionFound → ℕ → TrapStep
   stepOf kind found counter =
       let rt = readValue (readGpr core (access .«register_index»)) in
       cond (notHandled kind found access rt counter) (injectDataAbort core counter trap) (handled kind access (offsetIn found) core counter)

@@ -1,61 +1,43 @@
 -- Laws on a data abort. Assumes nothing.
 use mathlib.Core.Bool.{Bool, true, false, not, _&&_, _||_, cond}
 use mathlib.Core.List.{List}
-use Prim.Native.Nat.{ℕ, _+_, _*_, _/_, _%_, _^_, _-_, _<_}
-use mathlib.Core.Path.{_≡_, refl, ap, ap₂, sym, _∙_}
-use native.Mathlib.Nat.{mod-lt}
-use native.Mathlib.Omega.{arith}
-use lib.Bits.{bitAnd, bitOr, and-mask, and-block, or-block, or-zero-r, or-shifted-r}
-use lib.Dec.{lit<, eqb}
-use lib.Pow.{split, pow-pos}
+use Prim.Native.Nat.{ℕ, _/_, _^_, _<_}
+use mathlib.Core.Path.{_≡_, refl, ap, ap₂, _∙_}
+use lib.Dec.{eqb, lit<}
 use Rattle.lists.proofs.Laws.{cond-map, cond-all}
+use Rattle.bits.specs.Bits.{bitsAt, lowBits, FitsWord}
+use Rattle.bits.proofs.Laws.{replaced-field, replaced-below, replaced-above, replaced-fits}
 use Rattle.memory_access.specs.declared.MemoryAccess.{MemoryAccess}
 use Rattle.memory_access.specs.declared.MemoryAccessKind.{MemoryAccessKind}
 use Rattle.memory_access.specs.declared.MemoryAccessKind.the-variants.{Read, Write}
 use Rattle.memory_access.specs.declared.Decoded.the-variants.{Access, NoSyndrome}
-use Rattle.memory_access.specs.Syndrome.{bitsAt, isv, decodeAccess}
+use Rattle.memory_access.specs.Syndrome.{isv, decodeAccess}
 use Rattle.memory_access.specs.Transfer.{extendReadResult}
+use Rattle.memory_access.proofs.Laws.{extended-fits}
 use Rattle.stage2_range.specs.declared.MemoryAccessRegion.{MemoryAccessRegion}
 use Rattle.stage2_range.specs.declared.RegionFound.{RegionFound}
 use Rattle.stage2_range.specs.Registry.{findRegion}
 use Rattle.exceptions.specs.declared.Core.{Core}
 use Rattle.exceptions.specs.Registers.{advancePc, readGpr, readValue, writeGpr}
 use Rattle.exceptions.proofs.Laws.{write-wait}
+use Rattle.exceptions.proofs.InWords.{InWords, in-advanced, in-return, in-written}
 use Rattle.qemu.specs.FilteredMmio.{loadsCounter, counterAfter, readFilteredMmio}
-use Rattle.data_abort.specs.declared.AbortAnswer.the-variants.{Handled, Injected, NoGuestVector}
-use Rattle.data_abort.specs.declared.AbortStep.{AbortStep}
+use Rattle.qemu.proofs.Laws.{counter-fits}
+use Rattle.core_answers.specs.declared.CoreError.the-variants.{NoGuestVector}
+use Rattle.core_answers.specs.declared.TrapAnswer.the-variants.{AccessHandled, AbortInjected, Refused}
+use Rattle.core_answers.specs.declared.TrapStep.{TrapStep}
+use Rattle.core_answers.specs.Answers.{trapNumber, isForwarded, refusedTrap}
+use Rattle.core_answers.specs.declared.CoreError.{CoreError}
 use Rattle.data_abort.specs.declared.TrapRegisters.{TrapRegisters}
-use Rattle.data_abort.specs.DataAbort.{iss, accessBy, offsetIn, pageRead, notHandled, injectionDue, wordRead, handled, withEc, injected, injectDataAbort, handleDataAbort, abortNumber}
-use Rattle.data_abort.specs.Outcome.{unhandled, done, emulate, emulateDecoded, tryMemoryAccess, stepBy}
-
--- a mask clears bits 31:26
-ec-cleared : (e : ℕ) → e < 2 ^ 64 → bitAnd e (2 ^ 64 - 1 - 0x3F * 2 ^ 26) ≡ e / 2 ^ 32 * 2 ^ 32 + e % 2 ^ 26
-ec-cleared e h =
-    let hi : e / 2 ^ 32 % 2 ^ 32 ≡ e / 2 ^ 32 = omega arith in
-    let lo : e % 2 ^ 32 % 2 ^ 26 ≡ e % 2 ^ 26 = omega arith in
-    ap (λ (x : ℕ). bitAnd x (2 ^ 64 - 1 - 0x3F * 2 ^ 26)) (sym (split e 32))
-    ∙ and-block 32 (e / 2 ^ 32) (2 ^ 32 - 1) (e % 2 ^ 32) (2 ^ 26 - 1) (mod-lt e (pow-pos 32)) (lit< tt)
-    ∙ ap₂ (λ (x y : ℕ). x * 2 ^ 32 + y) (and-mask (e / 2 ^ 32) 32 ∙ hi) (and-mask (e % 2 ^ 32) 26 ∙ lo)
-
--- a class is put there
-ec-placed : (high low : ℕ) → low < 2 ^ 26 → bitOr (high * 2 ^ 32 + low) (0x25 * 2 ^ 26) ≡ high * 2 ^ 32 + 0x25 * 2 ^ 26 + low
-ec-placed high low h =
-    let e : high * 2 ^ 32 + (0x25 * 2 ^ 26 + low) ≡ high * 2 ^ 32 + 0x25 * 2 ^ 26 + low = omega arith in
-    or-block 32 high 0 low (0x25 * 2 ^ 26) (omega arith) (lit< tt)
-    ∙ ap₂ (λ (x y : ℕ). x * 2 ^ 32 + y) (or-zero-r high) (or-shifted-r 0x25 26 low h)
-    ∙ e
-
-pub ec-replaced : (e : ℕ) → e < 2 ^ 64 → bitOr (bitAnd e (2 ^ 64 - 1 - 0x3F * 2 ^ 26)) (0x25 * 2 ^ 26) ≡ withEc e 0x25
-unfolding withEc
-ec-replaced e h =
-    ap (λ (x : ℕ). bitOr x (0x25 * 2 ^ 26)) (ec-cleared e h)
-    ∙ ec-placed (e / 2 ^ 32) (e % 2 ^ 26) (mod-lt e (pow-pos 26))
+use Rattle.data_abort.specs.DataAbort.{iss, accessBy, offsetIn, pageRead, notHandled, injectionDue, wordRead, handled, withEc, injected, injectDataAbort, handleDataAbort}
+use Rattle.data_abort.specs.Outcome.{done, emulate, emulateDecoded, tryMemoryAccess, stepBy, emulateAccess}
+use Rattle.data_abort.specs.declared.AccessOutcome.the-variants.{Unhandled}
+use native.Mathlib.Omega.{arith}
 
 -- "the whole ESR with EC 0x25": bits 31:26 are the class, and all others are as they were
 pub class-replaced : (esr class : ℕ) → class < 2 ^ 6
-    → (bitsAt (withEc esr class) 26 6 ≡ class) × (withEc esr class % 2 ^ 26 ≡ esr % 2 ^ 26) × (withEc esr class / 2 ^ 32 ≡ esr / 2 ^ 32)
-unfolding withEc bitsAt
-class-replaced esr class h = (omega arith, omega arith, omega arith)
+    → (bitsAt (withEc esr class) 26 6 ≡ class) × (lowBits 26 (withEc esr class) ≡ lowBits 26 esr) × (withEc esr class / 2 ^ 32 ≡ esr / 2 ^ 32)
+class-replaced esr class h = (replaced-field esr 26 6 class h, replaced-below esr 26 6 class h, replaced-above esr 26 6 class h)
 
 -- The step goes by what comes of the access: nothing handles it exactly where an injection is due.
 module _ (regions : List MemoryAccessRegion) (core : Core) (counter : ℕ) (trap : TrapRegisters) where
@@ -68,64 +50,75 @@ module _ (regions : List MemoryAccessRegion) (core : Core) (counter : ℕ) (trap
   abbrev rt : ℕ
   rt = readValue (readGpr core (access .«register_index»))
 
-  abbrev injection : AbortStep
+  abbrev injection : TrapStep
   injection = injectDataAbort core counter trap
 
   handled-by : (kind : MemoryAccessKind)
       → handled kind access (offsetIn found) core counter
-      ≡ (let e = done kind access (offsetIn found) counter in stepBy (e .outcome) (e .counter) core injection)
+      ≡ stepBy (done kind access (offsetIn found) counter) core counter injection
   handled-by Read = refl
   handled-by Write = refl
 
   access-by : (kind : MemoryAccessKind)
       → cond (notHandled kind found access rt counter) injection (handled kind access (offsetIn found) core counter)
-      ≡ (let e = emulate kind found access rt counter in stepBy (e .outcome) (e .counter) core injection)
+      ≡ stepBy (emulate kind found access rt counter) core counter injection
   unfolding emulate
   access-by kind = go (notHandled kind found access rt counter)
     where
       go : (b : Bool) → cond b injection (handled kind access (offsetIn found) core counter)
-          ≡ (let e = cond b (unhandled counter) (done kind access (offsetIn found) counter) in stepBy (e .outcome) (e .counter) core injection)
+          ≡ stepBy (cond b Unhandled (done kind access (offsetIn found) counter)) core counter injection
       go true = refl
       go false = handled-by kind
 
   pub by-outcome : handleDataAbort regions core counter trap
-      ≡ (let e = tryMemoryAccess regions core counter trap in stepBy (e .outcome) (e .counter) core injection)
+      ≡ stepBy (tryMemoryAccess regions core counter trap) core counter injection
   unfolding handleDataAbort injectionDue tryMemoryAccess decodeAccess
   by-outcome = go (isv (iss (trap .esr)))
     where
       go : (valid : Bool)
           → cond (not valid || notHandled (access .kind) found access rt counter) injection (handled (access .kind) access (offsetIn found) core counter)
-          ≡ (let e = emulateDecoded (cond valid (Access access) NoSyndrome) regions core counter in stepBy (e .outcome) (e .counter) core injection)
+          ≡ stepBy (emulateDecoded (cond valid (Access access) NoSyndrome) regions core counter) core counter injection
       go false = refl
       go true = access-by (access .kind)
 
-  handled-answer : (kind : MemoryAccessKind) → handled kind access (offsetIn found) core counter .answer ≡ Handled kind
+  -- the access is tried as it is decoded: the region that has its address, and what its register holds, decide
+  pub access-tried : (a : MemoryAccess) → decodeAccess (iss (trap .esr)) (trap .fipa) (trap .far) ≡ Access a
+      → emulateAccess (findRegion regions (a .ipa)) a (readValue (readGpr core (a .«register_index»))) counter
+      ≡ tryMemoryAccess regions core counter trap
+  unfolding tryMemoryAccess
+  access-tried a e = rw e
+
+  pub nothing-tried : decodeAccess (iss (trap .esr)) (trap .fipa) (trap .far) ≡ NoSyndrome → Unhandled ≡ tryMemoryAccess regions core counter trap
+  unfolding tryMemoryAccess
+  nothing-tried e = rw e
+
+  handled-answer : (kind : MemoryAccessKind) → handled kind access (offsetIn found) core counter .result .answer ≡ AccessHandled kind
   handled-answer Read = refl
   handled-answer Write = refl
 
   -- each answer exactly in its case: the abort where an injection is due, 13 where VBAR is 0 then, else the access in its direction
-  pub abort-answer : handleDataAbort regions core counter trap .answer
-      ≡ cond (injectionDue regions core counter trap) (cond (eqb (trap .vbar) 0) NoGuestVector Injected) (Handled (access .kind))
+  pub abort-answer : handleDataAbort regions core counter trap .result .answer
+      ≡ cond (injectionDue regions core counter trap) (cond (eqb (trap .vbar) 0) (Refused NoGuestVector) AbortInjected) (AccessHandled (access .kind))
   unfolding handleDataAbort injectDataAbort
   abort-answer =
-      cond-map (λ (s : AbortStep). s .answer) (injectionDue regions core counter trap) _ _
-      ∙ ap₂ (cond (injectionDue regions core counter trap)) (cond-map (λ (s : AbortStep). s .answer) (eqb (trap .vbar) 0) _ _)
+      cond-map (λ (s : TrapStep). s .result .answer) (injectionDue regions core counter trap) _ _
+      ∙ ap₂ (cond (injectionDue regions core counter trap)) (cond-map (λ (s : TrapStep). s .result .answer) (eqb (trap .vbar) 0) _ _)
       (handled-answer (access .kind))
 
   -- 13 exactly where an injection is due and VBAR is 0
-  pub abort-number : abortNumber (handleDataAbort regions core counter trap .answer)
+  pub abort-number : trapNumber (handleDataAbort regions core counter trap .result .answer)
       ≡ cond (injectionDue regions core counter trap && eqb (trap .vbar) 0) 13 0
-  abort-number = ap abortNumber abort-answer ∙ go (injectionDue regions core counter trap) (eqb (trap .vbar) 0)
+  abort-number = ap trapNumber abort-answer ∙ go (injectionDue regions core counter trap) (eqb (trap .vbar) 0)
     where
-      go : (due none : Bool) → abortNumber (cond due (cond none NoGuestVector Injected) (Handled (access .kind))) ≡ cond (due && none) 13 0
+      go : (due none : Bool) → trapNumber (cond due (cond none (Refused NoGuestVector) AbortInjected) (AccessHandled (access .kind))) ≡ cond (due && none) 13 0
       go true true = refl
       go true false = refl
       go false none = refl
 
--- A refusal changes nothing.
+-- A refusal is a refusal and nothing else.
 module _ (regions : List MemoryAccessRegion) (core : Core) (counter : ℕ) (trap : TrapRegisters) where
-  abbrev Kept : AbortStep → Type 0
-  Kept step = (abortNumber (step .answer) ≡ 0 → ⊥) → (step .core ≡ core) × (step .counter ≡ counter)
+  abbrev Kept : TrapStep → Type 0
+  Kept step = (trapNumber (step .result .answer) ≡ 0 → ⊥) → (error : CoreError) × (step ≡ refusedTrap error core counter)
 
   handled-accepted : (kind : MemoryAccessKind) (access : MemoryAccess) (offset : ℕ) → Kept (handled kind access offset core counter)
   handled-accepted Read access offset h = absurd (h refl)
@@ -135,7 +128,7 @@ module _ (regions : List MemoryAccessRegion) (core : Core) (counter : ℕ) (trap
   unfolding handleDataAbort injectDataAbort
   abort-refused =
       cond-all Kept (injectionDue regions core counter trap) _ _
-      (cond-all Kept (eqb (trap .vbar) 0) _ _ (λ h. (refl, refl)) (λ h. absurd (h refl)))
+      (cond-all Kept (eqb (trap .vbar) 0) _ _ (λ h. (NoGuestVector, refl)) (λ h. absurd (h refl)))
       (handled-accepted (accessBy trap .kind) (accessBy trap) _)
 
 -- What holds of the core and the counter as they were, after a handled load, after a handled store and after an injection, holds after a
@@ -144,7 +137,7 @@ module _ (P : Core → ℕ → Type 0) (core : Core) (counter : ℕ) (same : P c
     (load : (access : MemoryAccess) (value : ℕ) (loads : Bool)
     → P (advancePc (writeGpr core (access .«register_index») (extendReadResult access value) .core)) (counterAfter loads counter))
     (store : P (advancePc core) counter) where
-  abbrev After : AbortStep → Type 0
+  abbrev After : TrapStep → Type 0
   After step = P (step .core) (step .counter)
 
   after-handled : (kind : MemoryAccessKind) (access : MemoryAccess) (offset : ℕ) → After (handled kind access offset core counter)
@@ -169,3 +162,27 @@ abort-wait regions core counter trap =
     (λ access value loads. write-wait core (access .«register_index») (extendReadResult access value))
     refl
     regions trap refl
+
+-- and hands out no call
+pub abort-not-forwarded : (regions : List MemoryAccessRegion) (core : Core) (counter : ℕ) (trap : TrapRegisters)
+    → isForwarded (handleDataAbort regions core counter trap .result .answer) ≡ false
+abort-not-forwarded regions core counter trap =
+    ap isForwarded (abort-answer regions core counter trap) ∙ go (injectionDue regions core counter trap) (eqb (trap .vbar) 0)
+  where
+    go : (due none : Bool) → isForwarded (cond due (cond none (Refused NoGuestVector) AbortInjected) (AccessHandled (accessBy trap .kind))) ≡ false
+    go true true = refl
+    go true false = refl
+    go false none = refl
+
+-- A core and a counter that fit words fit after a data abort.
+pub in-aborted : (regions : List MemoryAccessRegion) (core : Core) (counter : ℕ) (trap : TrapRegisters) → InWords core → FitsWord counter
+    → FitsWord (trap .esr) → FitsWord (trap .far) →
+    let step = handleDataAbort regions core counter trap in
+    InWords (step .core) × FitsWord (step .counter)
+unfolding injected
+in-aborted regions core counter trap h f esr far =
+    abort-all (λ c n. InWords c × FitsWord n) core counter (h, f)
+    (λ access value loads.
+    (in-advanced _ (in-written core h (access .«register_index») _ (extended-fits access value)), counter-fits loads counter f))
+    (in-advanced core h, f) regions trap
+    (in-return core h _ _ _ (omega arith, (omega arith, (h .rest-fits .0, (h .rest-fits .1 .0, (far, (replaced-fits (trap .esr) 26 6 0x25 (lit< tt) 32 esr, tt)))))), f)

@@ -1,5 +1,5 @@
 -- A data abort: the access is handled, or the guest gets the abort (document 01, "Trap", EC 0x24). Assumes nothing.
-use Prim.Native.Nat.{ℕ, _+_, _*_, _/_, _%_, _^_}
+use Prim.Native.Nat.{ℕ, _+_, _%_, _^_}
 use mathlib.Core.Bool.{Bool, true, false, not, cond, _||_}
 use mathlib.Core.List.{List}
 use lib.Dec.{eqb}
@@ -7,7 +7,8 @@ use Rattle.memory_access.specs.declared.MemoryAccess.{MemoryAccess}
 use Rattle.memory_access.specs.declared.MemoryAccessKind.{MemoryAccessKind}
 use Rattle.memory_access.specs.declared.MemoryAccessKind.the-variants.{Read, Write}
 use Rattle.memory_access.specs.Syndrome.{isv, accessOf}
-use Rattle.memory_access.specs.Transfer.{lowBits, extendReadResult, storeValue}
+use Rattle.bits.specs.Bits.{lowBits, withBits}
+use Rattle.memory_access.specs.Transfer.{extendReadResult, storeValue}
 use Rattle.stage2_range.specs.declared.MemoryAccessRegion.{MemoryAccessRegion}
 use Rattle.stage2_range.specs.declared.MemoryAccessHandlerMatch.{MemoryAccessHandlerMatch}
 use Rattle.stage2_range.specs.declared.MemoryHandler.{MemoryHandler}
@@ -22,11 +23,12 @@ use Rattle.stage2_range.specs.declared.RegionFound.{RegionFound}
 use Rattle.stage2_range.specs.declared.RegionFound.the-variants.{Nothing, Match}
 use Rattle.stage2_range.specs.Registry.{findRegion}
 use Rattle.exceptions.specs.declared.Core.{Core}
+use Rattle.core_answers.specs.declared.CoreError.the-variants.{NoGuestVector}
+use Rattle.core_answers.specs.declared.TrapAnswer.the-variants.{AccessHandled, AbortInjected}
+use Rattle.core_answers.specs.declared.TrapStep.{TrapStep}
+use Rattle.core_answers.specs.Answers.{answered, refusedTrap}
 use Rattle.exceptions.specs.Registers.{advancePc, readGpr, readValue, withReturn, writeGpr}
 use Rattle.qemu.specs.FilteredMmio.{readFilteredMmio, writeFilteredMmio}
-use Rattle.data_abort.specs.declared.AbortAnswer.{AbortAnswer}
-use Rattle.data_abort.specs.declared.AbortAnswer.the-variants as abort
-use Rattle.data_abort.specs.declared.AbortStep.{AbortStep}
 use Rattle.data_abort.specs.declared.Injection.{Injection}
 use Rattle.data_abort.specs.declared.TrapRegisters.{TrapRegisters}
 
@@ -106,16 +108,16 @@ wordRead (read.Value word) = word
 wordRead read.Fault = 0
 
 -- "A handled access writes Rt (loads) and ELR grows by 4 modulo 2^64"
-abbrev pub handled : MemoryAccessKind → MemoryAccess → ℕ → Core → ℕ → AbortStep
+abbrev pub handled : MemoryAccessKind → MemoryAccess → ℕ → Core → ℕ → TrapStep
 handled Read access offset core counter =
     let got = readFilteredMmio (pageRead access offset) counter in
     let value = extendReadResult access (wordRead (got .result)) in
-    record { answer = abort.Handled Read; core = advancePc (writeGpr core (access .«register_index») value .core); counter = got .counter }
-handled Write access offset core counter = record { answer = abort.Handled Write; core = advancePc core; counter = counter }
+    answered (AccessHandled Read) (advancePc (writeGpr core (access .«register_index») value .core)) (got .counter)
+handled Write access offset core counter = answered (AccessHandled Write) (advancePc core) counter
 
 -- a syndrome with another exception class, bits 31:26, and its other bits
-unfoldable pub withEc : ℕ → ℕ → ℕ
-withEc esr ec = esr / 2 ^ 32 * 2 ^ 32 + ec * 2 ^ 26 + esr % 2 ^ 26
+abbrev pub withEc : ℕ → ℕ → ℕ
+withEc esr ec = withBits esr 26 6 ec
 
 -- "ELR_EL1 and SPSR_EL1 take the saved ELR and SPSR, FAR_EL1 the FAR, ESR_EL1 the whole ESR with EC 0x25; ELR becomes VBAR + 0x200
 -- modulo 2^64 and SPSR 0x3C5"
@@ -133,20 +135,13 @@ injected core trap =
     withReturn core (to .elr) (to .spsr) (to .el1)
 
 -- 13: "an injection is due and VBAR is 0"
-unfoldable pub injectDataAbort : Core → ℕ → TrapRegisters → AbortStep
+unfoldable pub injectDataAbort : Core → ℕ → TrapRegisters → TrapStep
 injectDataAbort core counter trap =
-    cond (eqb (trap .vbar) 0) (record { answer = abort.NoGuestVector; core = core; counter = counter })
-    (record { answer = abort.Injected; core = injected core trap; counter = counter })
+    cond (eqb (trap .vbar) 0) (refusedTrap NoGuestVector core counter) (answered AbortInjected (injected core trap) counter)
 
 -- the data abort of one core, by the regions that are held: the abort where an injection is due, else the access
-unfoldable pub handleDataAbort : List MemoryAccessRegion → Core → ℕ → TrapRegisters → AbortStep
+unfoldable pub handleDataAbort : List MemoryAccessRegion → Core → ℕ → TrapRegisters → TrapStep
 handleDataAbort regions core counter trap =
     let access = accessBy trap in
     cond (injectionDue regions core counter trap) (injectDataAbort core counter trap)
     (handled (access .kind) access (offsetIn (findRegion regions (access .ipa))) core counter)
-
--- the number of an answer in document 01's table
-abbrev pub abortNumber : AbortAnswer → ℕ
-abortNumber (abort.Handled kind) = 0
-abortNumber abort.Injected = 0
-abortNumber abort.NoGuestVector = 13

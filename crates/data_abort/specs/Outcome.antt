@@ -17,50 +17,46 @@ use Rattle.stage2_range.specs.Registry.{findRegion}
 use Rattle.exceptions.specs.declared.Core.{Core}
 use Rattle.exceptions.specs.Registers.{advancePc, readGpr, readValue, writeGpr}
 use Rattle.qemu.specs.FilteredMmio.{readFilteredMmio}
-use Rattle.data_abort.specs.declared.AbortAnswer.the-variants as abort
-use Rattle.data_abort.specs.declared.AbortStep.{AbortStep}
+use Rattle.core_answers.specs.declared.TrapAnswer.the-variants.{AccessHandled}
+use Rattle.core_answers.specs.declared.TrapStep.{TrapStep}
+use Rattle.core_answers.specs.Answers.{answered}
 use Rattle.data_abort.specs.declared.AccessOutcome.{AccessOutcome}
 use Rattle.data_abort.specs.declared.AccessOutcome.the-variants.{Loaded, Stored, Unhandled}
-use Rattle.data_abort.specs.declared.Emulated.{Emulated}
 use Rattle.data_abort.specs.declared.TrapRegisters.{TrapRegisters}
 use Rattle.data_abort.specs.DataAbort.{iss, offsetIn, isAbsent, pageRead, deviceFault, notHandled, wordRead}
 
--- an access that nothing handles leaves the counter
-abbrev pub unhandled : ℕ → Emulated
-unhandled counter = record { outcome = Unhandled; counter = counter }
-
 -- a handled access: what Rt takes of a load, and the counter then
-abbrev pub done : MemoryAccessKind → MemoryAccess → ℕ → ℕ → Emulated
+abbrev pub done : MemoryAccessKind → MemoryAccess → ℕ → ℕ → AccessOutcome
 done Read access offset counter =
     let got = readFilteredMmio (pageRead access offset) counter in
-    record { outcome = Loaded (access .«register_index») (extendReadResult access (wordRead (got .result))); counter = got .counter }
-done Write access offset counter = record { outcome = Stored; counter = counter }
+    Loaded (access .«register_index») (extendReadResult access (wordRead (got .result))) (got .counter)
+done Write access offset counter = Stored
 
 -- an access through a handler
-unfoldable pub through : MemoryAccessKind → MemoryHandler → MemoryAccess → ℕ → ℕ → ℕ → Emulated
+unfoldable pub through : MemoryAccessKind → MemoryHandler → MemoryAccess → ℕ → ℕ → ℕ → AccessOutcome
 through kind handler access offset rt counter =
-    cond (isAbsent handler || deviceFault kind access offset rt counter) (unhandled counter) (done kind access offset counter)
+    cond (isAbsent handler || deviceFault kind access offset rt counter) Unhandled (done kind access offset counter)
 
 -- an access in this direction, by the region found for it and what Rt holds
-unfoldable pub emulate : MemoryAccessKind → RegionFound → MemoryAccess → ℕ → ℕ → Emulated
+unfoldable pub emulate : MemoryAccessKind → RegionFound → MemoryAccess → ℕ → ℕ → AccessOutcome
 emulate kind found access rt counter =
-    cond (notHandled kind found access rt counter) (unhandled counter) (done kind access (offsetIn found) counter)
+    cond (notHandled kind found access rt counter) Unhandled (done kind access (offsetIn found) counter)
 
-abbrev pub emulateAccess : RegionFound → MemoryAccess → ℕ → ℕ → Emulated
+abbrev pub emulateAccess : RegionFound → MemoryAccess → ℕ → ℕ → AccessOutcome
 emulateAccess found access rt counter = emulate (access .kind) found access rt counter
 
 -- "No ISV", or an access
-abbrev pub emulateDecoded : Decoded → List MemoryAccessRegion → Core → ℕ → Emulated
-emulateDecoded NoSyndrome regions core counter = unhandled counter
+abbrev pub emulateDecoded : Decoded → List MemoryAccessRegion → Core → ℕ → AccessOutcome
+emulateDecoded NoSyndrome regions core counter = Unhandled
 emulateDecoded (Access access) regions core counter =
     emulateAccess (findRegion regions (access .ipa)) access (readValue (readGpr core (access .«register_index»))) counter
 
-unfoldable pub tryMemoryAccess : List MemoryAccessRegion → Core → ℕ → TrapRegisters → Emulated
+unfoldable pub tryMemoryAccess : List MemoryAccessRegion → Core → ℕ → TrapRegisters → AccessOutcome
 tryMemoryAccess regions core counter trap = emulateDecoded (decodeAccess (iss (trap .esr)) (trap .fipa) (trap .far)) regions core counter
 
 -- the step that an outcome comes to; where nothing handles the access, that of the injection
-abbrev pub stepBy : AccessOutcome → ℕ → Core → AbortStep → AbortStep
-stepBy (Loaded register value) after core injection =
-    record { answer = abort.Handled Read; core = advancePc (writeGpr core register value .core); counter = after }
-stepBy Stored after core injection = record { answer = abort.Handled Write; core = advancePc core; counter = after }
-stepBy Unhandled after core injection = injection
+abbrev pub stepBy : AccessOutcome → Core → ℕ → TrapStep → TrapStep
+stepBy (Loaded register value after) core counter injection =
+    answered (AccessHandled Read) (advancePc (writeGpr core register value .core)) after
+stepBy Stored core counter injection = answered (AccessHandled Write) (advancePc core) counter
+stepBy Unhandled core counter injection = injection

@@ -4,8 +4,11 @@ ghost use Rattle.lists.specs.Lists.{held};
 ghost use Rattle.memory_access.specs.declared.MemoryAccessKind.the-variants.{Read, Write};
 ghost use Rattle.memory_access.specs.Syndrome.{decodeAccess};
 ghost use Rattle.stage2_range.specs.declared.RegionFound.the-variants.{Match};
-ghost use Rattle.data_abort.specs.DataAbort.{iss, abortNumber, withEc, injectionOf, injectDataAbort, handleDataAbort};
-ghost use Rattle.data_abort.specs.Outcome.{unhandled, through, emulateAccess, tryMemoryAccess};
+ghost use Rattle.data_abort.specs.DataAbort.{iss, withEc, injectionOf, injectDataAbort, handleDataAbort};
+ghost use Rattle.data_abort.specs.Outcome.{through, emulateAccess, tryMemoryAccess};
+use core_answers::CoreError;
+use core_answers::TrapAnswer;
+use core_answers::TrapStep;
 use exceptions::Core;
 use exceptions::FaultRegisters;
 use memory_access::Decoded;
@@ -29,46 +32,12 @@ pub struct TrapRegisters {
     pub vbar: u64,
 }
 
-// What a data abort answers.
-pub enum AbortAnswer {
-    // The load or the store is done.
-    Handled(MemoryAccessKind),
-    Injected,
-    NoGuestVector,
-}
-
-// The answer, and the core and the counter then.
-pub struct AbortStep {
-    pub answer: AbortAnswer,
-    pub core: Core,
-    pub counter: u64,
-}
-
-impl AbortAnswer {
-    // The answer's number in the table of refusals.
-    pub fn number(self) -> u64
-        ensures { λ r. ⌜ r ≡ abortNumber self ⌝ }
-    {
-        match self {
-            AbortAnswer::Handled(_) => 0,
-            AbortAnswer::Injected => 0,
-            AbortAnswer::NoGuestVector => 13,
-        }
-    }
-}
-
 // What comes of the access that a data abort describes.
 pub enum AccessOutcome {
-    // A load: its register, and what that takes.
-    Loaded(usize, u64),
+    // A load: its register, what that takes, and the counter then.
+    Loaded(usize, u64, u64),
     Stored,
     Unhandled,
-}
-
-// What comes of it, and the counter then.
-pub struct Emulated {
-    pub outcome: AccessOutcome,
-    pub counter: u64,
 }
 
 // A data abort of one core, by the regions that are held.
@@ -78,36 +47,25 @@ pub fn handle_data_abort(
     core: Core,
     counter: u64,
     trap: TrapRegisters,
-) -> AbortStep
+) -> TrapStep
     ensures { λ r. ⌜ r ≡ handleDataAbort (held 16 «region_count» regions) core counter trap ⌝ }
 {
-    let emulated = try_memory_access_handler(regions, region_count, core, counter, trap);
-    let outcome = emulated.outcome;
-    match outcome {
-        AccessOutcome::Loaded(register_index, value) => {
+    match try_memory_access_handler(regions, region_count, core, counter, trap) {
+        AccessOutcome::Loaded(register_index, value, after) => {
             let written = core.write_gpr(register_index, value);
             let loaded = written.core;
-            AbortStep {
-                answer: AbortAnswer::Handled(MemoryAccessKind::Read),
-                core: loaded.advance_pc(),
-                counter: emulated.counter,
-            }
+            TrapStep::answered(
+                TrapAnswer::AccessHandled(MemoryAccessKind::Read),
+                loaded.advance_pc(),
+                after,
+            )
         }
-        AccessOutcome::Stored => AbortStep {
-            answer: AbortAnswer::Handled(MemoryAccessKind::Write),
-            core: core.advance_pc(),
-            counter: emulated.counter,
-        },
+        AccessOutcome::Stored => TrapStep::answered(
+            TrapAnswer::AccessHandled(MemoryAccessKind::Write),
+            core.advance_pc(),
+            counter,
+        ),
         AccessOutcome::Unhandled => inject_data_abort(core, counter, trap),
-    }
-}
-
-fn unhandled(counter: u64) -> Emulated
-    ensures { λ r. ⌜ r ≡ unhandled counter ⌝ }
-{
-    Emulated {
-        outcome: AccessOutcome::Unhandled,
-        counter,
     }
 }
 
@@ -117,7 +75,7 @@ fn try_memory_access_handler(
     core: Core,
     counter: u64,
     trap: TrapRegisters,
-) -> Emulated
+) -> AccessOutcome
     ensures { λ r. ⌜ r ≡ tryMemoryAccess (held 16 «region_count» regions) core counter trap ⌝ }
 {
     match decode_abort(trap) {
@@ -127,7 +85,7 @@ fn try_memory_access_handler(
             let read = core.read_gpr(access.register_index);
             emulate_access(found, access, read.value(), counter)
         }
-        Decoded::NoSyndrome => unhandled(counter),
+        Decoded::NoSyndrome => AccessOutcome::Unhandled,
     }
 }
 
@@ -144,12 +102,17 @@ pub fn decode_abort(trap: TrapRegisters) -> Decoded
 }
 
 // What the access comes to, by the region that has its address and by what its register holds.
-pub fn emulate_access(found: RegionFound, access: MemoryAccess, rt: u64, counter: u64) -> Emulated
+pub fn emulate_access(
+    found: RegionFound,
+    access: MemoryAccess,
+    rt: u64,
+    counter: u64,
+) -> AccessOutcome
     ensures { λ r. ⌜ r ≡ emulateAccess found access rt counter ⌝ }
 {
     match found {
         RegionFound::Match(m) => access_in(m, access, rt, counter),
-        RegionFound::Nothing => unhandled(counter),
+        RegionFound::Nothing => AccessOutcome::Unhandled,
     }
 }
 
@@ -159,7 +122,7 @@ fn access_in(
     access: MemoryAccess,
     rt: u64,
     counter: u64,
-) -> Emulated
+) -> AccessOutcome
     ensures { λ r. ⌜ r ≡ emulateAccess (Match found) access rt counter ⌝ }
 {
     let region = found.region;
@@ -172,30 +135,33 @@ fn access_in(
         }
         MemoryAccessKind::Write => {
             let write = handler.write;
-            write_through(write, access, found.offset, rt, counter)
+            write_through(write, access, found.offset, rt)
         }
     }
 }
 
-fn read_through(handler: MemoryHandler, access: MemoryAccess, offset: u64, counter: u64) -> Emulated
+fn read_through(
+    handler: MemoryHandler,
+    access: MemoryAccess,
+    offset: u64,
+    counter: u64,
+) -> AccessOutcome
     ensures { λ r. ⌜ r ≡ through Read handler access offset 0 counter ⌝ }
 {
     let ipa = access.ipa;
     let width = access.width;
     match handler {
-        MemoryHandler::Absent => unhandled(counter),
+        MemoryHandler::Absent => AccessOutcome::Unhandled,
         MemoryHandler::FilteredMmio => {
             let read = qemu::read_filtered_mmio(MemoryReadAccess { ipa, offset, width }, counter);
             let result = read.result;
             match result {
-                MemoryReadResult::Value(value) => Emulated {
-                    outcome: AccessOutcome::Loaded(
-                        access.register_index,
-                        access.extend_read_result(value),
-                    ),
-                    counter: read.counter,
-                },
-                MemoryReadResult::Fault => unhandled(counter),
+                MemoryReadResult::Value(value) => AccessOutcome::Loaded(
+                    access.register_index,
+                    access.extend_read_result(value),
+                    read.counter,
+                ),
+                MemoryReadResult::Fault => AccessOutcome::Unhandled,
             }
         }
     }
@@ -206,14 +172,13 @@ fn write_through(
     access: MemoryAccess,
     offset: u64,
     rt: u64,
-    counter: u64,
-) -> Emulated
-    ensures { λ r. ⌜ r ≡ through Write handler access offset rt counter ⌝ }
+) -> AccessOutcome
+    ensures { λ r. ⌜ r ≡ through Write handler access offset rt 0 ⌝ }
 {
     let ipa = access.ipa;
     let width = access.width;
     match handler {
-        MemoryHandler::Absent => unhandled(counter),
+        MemoryHandler::Absent => AccessOutcome::Unhandled,
         MemoryHandler::FilteredMmio => {
             let value = access.store_value(rt);
             let write = MemoryWriteAccess {
@@ -223,11 +188,8 @@ fn write_through(
                 value,
             };
             match qemu::write_filtered_mmio(write) {
-                MemoryWriteResult::Handled => Emulated {
-                    outcome: AccessOutcome::Stored,
-                    counter,
-                },
-                MemoryWriteResult::Fault => unhandled(counter),
+                MemoryWriteResult::Handled => AccessOutcome::Stored,
+                MemoryWriteResult::Fault => AccessOutcome::Unhandled,
             }
         }
     }
@@ -263,15 +225,11 @@ pub fn injection_of(elr: u64, spsr: u64, trap: TrapRegisters) -> Injection
     }
 }
 
-fn inject_data_abort(core: Core, counter: u64, trap: TrapRegisters) -> AbortStep
+fn inject_data_abort(core: Core, counter: u64, trap: TrapRegisters) -> TrapStep
     ensures { λ r. ⌜ r ≡ injectDataAbort core counter trap ⌝ }
 {
     if trap.vbar == 0 {
-        return AbortStep {
-            answer: AbortAnswer::NoGuestVector,
-            core,
-            counter,
-        };
+        return TrapStep::refused(CoreError::NoGuestVector, core, counter);
     }
     let x = core.x;
     let wait = core.wait;
@@ -284,11 +242,7 @@ fn inject_data_abort(core: Core, counter: u64, trap: TrapRegisters) -> AbortStep
         el1,
         wait,
     };
-    AbortStep {
-        answer: AbortAnswer::Injected,
-        core: next,
-        counter,
-    }
+    TrapStep::answered(TrapAnswer::AbortInjected, next, counter)
 }
 
 const ESR_EC_SHIFT: u64 = 26;

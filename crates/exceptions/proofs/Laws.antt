@@ -5,7 +5,7 @@ use mathlib.Core.Bool.{Bool, true, false}
 use native.Mathlib.Omega.{arith}
 use borrow.Author.Tests.{lt-ltb, le-ltb, eq-eqb, ne-eqb, ltb-false}
 use lib.Dec.{eqb, ltb}
-use lib.ListN.{length}
+use lib.ListN.{length, length-set}
 use lib.Seq.{getD-set-same, getD-set-other}
 use Rattle.lists.proofs.Laws.{cond-all}
 use Rattle.exceptions.specs.declared.Core.{Core}
@@ -43,9 +43,24 @@ module _ (core : Core) (index value : ℕ) (within : index < 31) where
   unfolding readGpr writeGpr withRegisters
   read-other other h = rw (lt-ltb index 31 within, getD-set-other (core .x) index other value 0 h)
 
+-- a write that is refused leaves the core
+pub write-refused : (core : Core) (index value : ℕ) → (writeNumber (writeGpr core index value .answer) ≡ 0 → ⊥)
+    → writeGpr core index value .core ≡ core
+unfolding writeGpr
+write-refused core index value =
+    let Kept : GprWritten → Type 0 = λ w. (writeNumber (w .answer) ≡ 0 → ⊥) → w .core ≡ core in
+    cond-all Kept (ltb index 31) _ _ (λ h. absurd (h refl)) (cond-all Kept (eqb index 31) _ _ (λ h. refl) (λ h. refl))
+
 -- a write leaves what the core waits for
 pub write-wait : (core : Core) (index value : ℕ) → writeGpr core index value .core .wait ≡ core .wait
 unfolding writeGpr withRegisters
 write-wait core index value =
     let Same : GprWritten → Type 0 = λ w. w .core .wait ≡ core .wait in
     cond-all Same (ltb index 31) _ _ refl (cond-all Same (eqb index 31) _ _ refl refl)
+
+-- and how many registers there are
+pub write-length : (core : Core) (index value : ℕ) → length (writeGpr core index value .core .x) ≡ length (core .x)
+unfolding writeGpr withRegisters
+write-length core index value =
+    let Same : GprWritten → Type 0 = λ w. length (w .core .x) ≡ length (core .x) in
+    cond-all Same (ltb index 31) _ _ (length-set (core .x) index value) (cond-all Same (eqb index 31) _ _ refl refl)

@@ -2,3 +2,4 @@
 pub mod Laws
 -- Machine values that the walks of this crate cite.
 mod Values
+pub mod InWords

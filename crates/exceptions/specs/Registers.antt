@@ -23,11 +23,19 @@ freshCore = record {
   wait = Nothing;
 }
 
+-- a core by its number; a fresh one where there is none of that number
+abbrev pub coreOf : List Core → ℕ → Core
+coreOf cores i = getD cores i freshCore
+
 -- "ELR grows by 4 modulo 2^64"
+abbrev pub nextInstruction : ℕ → ℕ
+nextInstruction elr = (elr + 4) % 2 ^ 64
+
+-- the core past the instruction that trapped
 unfoldable pub advancePc : Core → Core
 advancePc core = record {
   x = core .x;
-  elr = (core .elr + 4) % 2 ^ 64;
+  elr = nextInstruction (core .elr);
   spsr = core .spsr;
   el1 = core .el1;
   wait = core .wait;

@@ -1,6 +1,6 @@
 // RITM's src/exceptions.rs: the guest registers that a trap saved, as one record by value.
 ghost use mathlib.Core.Path.{_≡_};
-ghost use Rattle.exceptions.specs.Registers.{freshCore, advancePc, readGpr, readNumber, readValue, writeGpr, writeNumber};
+ghost use Rattle.exceptions.specs.Registers.{freshCore, nextInstruction, advancePc, readGpr, readNumber, readValue, writeGpr, writeNumber};
 
 // How a call left the guest: the SMCCC's conduit.
 pub enum Conduit {
@@ -91,6 +91,13 @@ impl GprWrite {
 
 const AARCH64_INSTRUCTION_LENGTH: u64 = 4;
 
+// Where the instruction after the one at `elr` stands.
+pub fn next_instruction(elr: u64) -> u64
+    ensures { λ r. ⌜ r ≡ nextInstruction elr ⌝ }
+{
+    std::num::wrapping_add_u64(elr, AARCH64_INSTRUCTION_LENGTH)
+}
+
 impl Core {
     // The fresh core: all zero, waiting for nothing.
     pub fn fresh() -> Self
@@ -116,7 +123,7 @@ impl Core {
         ensures { λ r. ⌜ r ≡ advancePc self ⌝ }
     {
         let mut core = self;
-        core.elr = std::num::wrapping_add_u64(self.elr, AARCH64_INSTRUCTION_LENGTH);
+        core.elr = next_instruction(self.elr);
         core
     }
 

@@ -3,6 +3,7 @@ use Prim.Native.Nat.{ℕ, _-_}
 use mathlib.Core.Bool.{Bool, true, false, cond, _&&_, _||_}
 use mathlib.Core.List.{List, _++_}
 use lib.Dec.{eqb, leb}
+use lib.IntN.{ℤ}
 use lib.ListN.{take, getD, replicate}
 use Rattle.exceptions.specs.declared.Core.{Core}
 use Rattle.exceptions.specs.declared.Conduit.{Conduit}
@@ -11,15 +12,20 @@ use Rattle.exceptions.specs.declared.Recipient.{Recipient}
 use Rattle.exceptions.specs.declared.Recipient.the-variants.{Firmware, Platform}
 use Rattle.exceptions.specs.declared.Wait.{Wait}
 use Rattle.exceptions.specs.declared.Wait.the-variants.{Nothing, Call}
-use Rattle.exceptions.specs.Registers.{advancePc}
+use Rattle.exceptions.specs.Registers.{nextInstruction}
+use Rattle.core_answers.specs.declared.CoreError.the-variants.{NothingWaiting, UnknownReplyKind}
+use Rattle.core_answers.specs.declared.CoreAnswer.the-variants.{Accepted}
+use Rattle.core_answers.specs.declared.CoreStep.{CoreStep}
+use Rattle.core_answers.specs.declared.TrapAnswer.the-variants.{Forwarded}
+use Rattle.core_answers.specs.declared.TrapResult.{TrapResult}
+use Rattle.core_answers.specs.Answers.{forwardedLength, refusedCore}
 use Rattle.hvc_response.specs.declared.HvcResultKind.{HvcResultKind}
-use Rattle.hvc_response.specs.declared.HvcResultKind.the-variants.{Result, UnknownKind}
+use Rattle.hvc_response.specs.declared.HvcResultKind.the-variants as kind
 use Rattle.hvc_response.specs.Response.{response, resultOfKind, withFirst}
 use Rattle.forwarded_call.specs.declared.ForwardedCall.{ForwardedCall}
 use Rattle.forwarded_call.specs.declared.HvcReply.{HvcReply}
-use Rattle.forwarded_call.specs.declared.ReplyAnswer.{ReplyAnswer}
-use Rattle.forwarded_call.specs.declared.ReplyAnswer.the-variants.{Accepted, NothingWaiting, UnknownReplyKind}
-use Rattle.forwarded_call.specs.declared.Replied.{Replied}
+use Rattle.forwarded_call.specs.declared.ReplyDecision.{ReplyDecision}
+use Rattle.forwarded_call.specs.declared.ReplyDecision.the-variants.{Taken, Refused}
 
 -- a number lies between two others, both included
 abbrev pub between : ℕ → ℕ → ℕ → Bool
@@ -37,19 +43,22 @@ registersFor Platform = 18
 
 -- the first registers, and zeros past them
 unfoldable pub forwardedValues : List ℕ → ℕ → List ℕ
-forwardedValues x n = take n x ++ replicate (18 - n) 0
+forwardedValues x n = take n x ++ replicate (forwardedLength - n) 0
+
+-- what a forwarded call gives its recipient (document 01: a hand-out)
+abbrev pub forwardedResult : Recipient → List ℕ → TrapResult
+forwardedResult recipient x = record { answer = Forwarded recipient; values = forwardedValues x (registersFor recipient) }
 
 -- the core with another wait
 unfoldable pub withWait : Core → Wait → Core
 withWait core wait = record { x = core .x; elr = core .elr; spsr = core .spsr; el1 = core .el1; wait = wait }
 
--- a forwarded call (document 01: a hand-out): "The core then waits and nothing else changes yet"
+-- a forwarded call: "The core then waits and nothing else changes yet"
 unfoldable pub forwardCall : Core → Conduit → ForwardedCall
 forwardCall core conduit =
     let recipient = recipientOf (getD (core .x) 0 0) in
     record {
-      recipient = recipient;
-      values = forwardedValues (core .x) (registersFor recipient);
+      result = forwardedResult recipient (core .x);
       core = withWait core (Call conduit recipient);
     }
 
@@ -64,40 +73,42 @@ waitsForFirmware Nothing = false
 waitsForFirmware (Call conduit Firmware) = true
 waitsForFirmware (Call conduit Platform) = false
 
--- the number of a reply's answer in document 01's table
-abbrev pub replyNumber : ReplyAnswer → ℕ
-replyNumber Accepted = 0
-replyNumber NothingWaiting = 14
-replyNumber UnknownReplyKind = 15
-
--- a refusal leaves the core as it was
-abbrev pub refusedReply : ReplyAnswer → Core → Replied
-refusedReply answer core = record { answer = answer; core = core }
-
 -- 15 is met where a kind is "not 1 or 4 for the firmware"
 unfoldable pub mayReply : Recipient → ℕ → Bool
 mayReply Firmware kind = eqb kind 1 || eqb kind 4
 mayReply Platform kind = true
 
--- "for an SMC, whichever reply it was, ELR grows by 4 modulo 2^64, for an HVC it stays"; the wait ends
+-- 15 is met where there is no such kind, too
+abbrev pub takenBy : Conduit → HvcResultKind → ReplyDecision
+takenBy conduit (kind.Result result) = Taken result conduit
+takenBy conduit (kind.Refused error) = Refused error
+
+-- what becomes of a reply, by what the core waits for, the reply's kind, first value and error; 14: "reply to a core that waits for none"
+unfoldable pub decideReply : Wait → ℕ → ℕ → ℤ → ReplyDecision
+decideReply Nothing kind value error = Refused NothingWaiting
+decideReply (Call conduit recipient) kind value error =
+    cond (mayReply recipient kind) (takenBy conduit (resultOfKind kind value error)) (Refused UnknownReplyKind)
+
+-- "for an SMC, whichever reply it was, ELR grows by 4 modulo 2^64, for an HVC it stays"
+abbrev pub resumedElr : Conduit → ℕ → ℕ
+resumedElr Hvc elr = elr
+resumedElr Smc elr = nextInstruction elr
+
+-- the core goes on there, and waits no more
 unfoldable pub resumed : Conduit → Core → Core
-resumed Hvc core = withWait core Nothing
-resumed Smc core = withWait (advancePc core) Nothing
+resumed conduit core = record {
+  x = core .x;
+  elr = resumedElr conduit (core .elr);
+  spsr = core .spsr;
+  el1 = core .el1;
+  wait = Nothing;
+}
 
--- "The reply writes its registers"; 15: "kind above 4"
-abbrev pub replied : HvcResultKind → Conduit → Core → List ℕ → Replied
-replied (Result result) conduit core values = record { answer = Accepted; core = resumed conduit (withFirst core (response result values)) }
-replied UnknownKind conduit core values = refusedReply UnknownReplyKind core
+-- "The reply writes its registers"
+abbrev pub repliedBy : ReplyDecision → Core → List ℕ → CoreStep
+repliedBy (Taken result conduit) core values = record { answer = Accepted; core = resumed conduit (withFirst core (response result values)) }
+repliedBy (Refused error) core values = refusedCore error core
 
--- a reply to a forwarded call, by its kind
-unfoldable pub completeCall : Conduit → Core → HvcReply → Replied
-completeCall conduit core reply = replied (resultOfKind (reply .kind) (getD (reply .values) 0 0) (reply .error)) conduit core (reply .values)
-
--- 14: "reply to a core that waits for none"
-abbrev pub replyTo : Wait → Core → HvcReply → Replied
-replyTo Nothing core reply = refusedReply NothingWaiting core
-replyTo (Call conduit recipient) core reply =
-    cond (mayReply recipient (reply .kind)) (completeCall conduit core reply) (refusedReply UnknownReplyKind core)
-
-unfoldable pub replyCore : Core → HvcReply → Replied
-replyCore core reply = replyTo (core .wait) core reply
+unfoldable pub replyCore : Core → HvcReply → CoreStep
+replyCore core reply =
+    repliedBy (decideReply (core .wait) (reply .kind) (getD (reply .values) 0 0) (reply .error)) core (reply .values)

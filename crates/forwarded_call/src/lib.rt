@@ -1,52 +1,38 @@
 // RITM's src/hypervisor.rs, its HVC and SMC calls: each is handed out to its recipient, whose reply the core then takes.
 ghost use mathlib.Core.Path.{_≡_};
 ghost use Prim.Native.Nat.{_≤_};
-ghost use Rattle.forwarded_call.specs.ForwardedCall.{replyNumber, recipientOf, registersFor, forwardedValues, withWait, forwardCall, refusedReply, mayReply, resumed, completeCall, replyCore};
+ghost use Rattle.forwarded_call.specs.ForwardedCall.{recipientOf, registersFor, forwardedValues, withWait, forwardCall, mayReply, takenBy, decideReply, resumedElr, resumed, replyCore};
+use core_answers::CoreAnswer;
+use core_answers::CoreError;
+use core_answers::CoreStep;
+use core_answers::FORWARDED_VALUES;
+use core_answers::TrapAnswer;
+use core_answers::TrapResult;
 use exceptions::Conduit;
 use exceptions::Core;
 use exceptions::Recipient;
 use exceptions::Wait;
 use hvc_response::HvcResult;
 use hvc_response::HvcResultKind;
+use hvc_response::REPLY_VALUES;
 
-// A guest's call that is its recipient's to answer (document 01: a hand-out), with its registers, and the core then.
+// A guest's call that is its recipient's to answer (document 01: a hand-out), and the core then.
 pub struct ForwardedCall {
-    pub recipient: Recipient,
-    pub values: [u64; 18],
+    pub result: TrapResult,
     pub core: Core,
 }
 
 // The host's answer to a forwarded call: its kind, the values that the kind uses from the first on, and the error.
 pub struct HvcReply {
     pub kind: u64,
-    pub values: [u64; 18],
+    pub values: [u64; REPLY_VALUES],
     pub error: i32,
 }
 
-// What a reply answers.
-pub enum ReplyAnswer {
-    Accepted,
-    NothingWaiting,
-    UnknownReplyKind,
-}
-
-// The answer, and the core then.
-pub struct Replied {
-    pub answer: ReplyAnswer,
-    pub core: Core,
-}
-
-impl ReplyAnswer {
-    // The answer's number in the table of refusals.
-    pub fn number(self) -> u64
-        ensures { λ r. ⌜ r ≡ replyNumber self ⌝ }
-    {
-        match self {
-            ReplyAnswer::Accepted => 0,
-            ReplyAnswer::NothingWaiting => 14,
-            ReplyAnswer::UnknownReplyKind => 15,
-        }
-    }
+// What becomes of a reply: the core takes a result and goes on from a call by a conduit, or the reply is refused.
+pub enum ReplyDecision {
+    Taken(HvcResult, Conduit),
+    Refused(CoreError),
 }
 
 // Hands the call out: the core waits for its recipient's reply.
@@ -55,9 +41,12 @@ pub fn forward_call(core: Core, conduit: Conduit) -> ForwardedCall
 {
     let x = core.x;
     let recipient = recipient_of(x[0]);
-    ForwardedCall {
-        recipient,
+    let result = TrapResult {
+        answer: TrapAnswer::Forwarded(recipient),
         values: first_registers(x, registers_for(recipient)),
+    };
+    ForwardedCall {
+        result,
         core: wait_for(core, Wait::Call(conduit, recipient)),
     }
 }
@@ -83,11 +72,11 @@ pub fn registers_for(recipient: Recipient) -> usize
 }
 
 // The first registers, and zeros past them.
-fn first_registers(x: [u64; 31], count: usize) -> [u64; 18]
+fn first_registers(x: [u64; 31], count: usize) -> [u64; FORWARDED_VALUES]
     requires { ⌜ count ≤ 18 ⌝ }
     ensures { λ r. ⌜ r ≡ forwardedValues x count ⌝ }
 {
-    let mut values = [0u64; 18];
+    let mut values = [0u64; FORWARDED_VALUES];
     let mut index: usize = 0;
     while index < count {
         values[index] = x[index];
@@ -110,31 +99,8 @@ fn wait_for(core: Core, wait: Wait) -> Core
     }
 }
 
-fn refuse(answer: ReplyAnswer, core: Core) -> Replied
-    ensures { λ r. ⌜ r ≡ refusedReply answer core ⌝ }
-{
-    Replied { answer, core }
-}
-
-// Gives one core the answer that it waits for.
-pub fn reply_core(core: Core, reply: HvcReply) -> Replied
-    ensures { λ r. ⌜ r ≡ replyCore core reply ⌝ }
-{
-    let wait = core.wait;
-    match wait {
-        Wait::Nothing => refuse(ReplyAnswer::NothingWaiting, core),
-        Wait::Call(conduit, recipient) => {
-            if may_reply(recipient, reply.kind) {
-                complete_call(conduit, core, reply)
-            } else {
-                refuse(ReplyAnswer::UnknownReplyKind, core)
-            }
-        }
-    }
-}
-
 // The firmware answers with one value or an error, kinds 1 and 4.
-pub fn may_reply(recipient: Recipient, kind: u64) -> bool
+fn may_reply(recipient: Recipient, kind: u64) -> bool
     ensures { λ r. ⌜ r ≡ mayReply recipient kind ⌝ }
 {
     match recipient {
@@ -143,28 +109,69 @@ pub fn may_reply(recipient: Recipient, kind: u64) -> bool
     }
 }
 
-fn complete_call(conduit: Conduit, core: Core, reply: HvcReply) -> Replied
-    ensures { λ r. ⌜ r ≡ completeCall conduit core reply ⌝ }
+fn taken_by(conduit: Conduit, result: HvcResultKind) -> ReplyDecision
+    ensures { λ r. ⌜ r ≡ takenBy conduit result ⌝ }
 {
-    let values = reply.values;
-    match HvcResult::from_kind(reply.kind, values[0], reply.error) {
-        HvcResultKind::Result(result) => {
-            let answered = result.modify_register_state(core, values);
-            Replied {
-                answer: ReplyAnswer::Accepted,
-                core: resume(answered, conduit),
-            }
-        }
-        HvcResultKind::UnknownKind => refuse(ReplyAnswer::UnknownReplyKind, core),
+    match result {
+        HvcResultKind::Result(result) => ReplyDecision::Taken(result, conduit),
+        HvcResultKind::Refused(error) => ReplyDecision::Refused(error),
     }
 }
 
-// The core goes on: past an SMC, to which ELR still points, and from an HVC's ELR, which points past it.
+// What becomes of a reply to a core that waits for this, by its kind, its first value and its error: refusals 14 and 15.
+pub fn decide_reply(wait: Wait, kind: u64, value: u64, error: i32) -> ReplyDecision
+    ensures { λ r. ⌜ r ≡ decideReply wait kind value error ⌝ }
+{
+    match wait {
+        Wait::Nothing => ReplyDecision::Refused(CoreError::NothingWaiting),
+        Wait::Call(conduit, recipient) => {
+            if may_reply(recipient, kind) {
+                taken_by(conduit, HvcResult::from_kind(kind, value, error))
+            } else {
+                ReplyDecision::Refused(CoreError::UnknownReplyKind)
+            }
+        }
+    }
+}
+
+// Where a core goes on: past an SMC, to which ELR still points, and from an HVC's ELR, which points past it.
+pub fn resumed_elr(conduit: Conduit, elr: u64) -> u64
+    ensures { λ r. ⌜ r ≡ resumedElr conduit elr ⌝ }
+{
+    match conduit {
+        Conduit::Hvc => elr,
+        Conduit::Smc => exceptions::next_instruction(elr),
+    }
+}
+
 fn resume(core: Core, conduit: Conduit) -> Core
     ensures { λ r. ⌜ r ≡ resumed conduit core ⌝ }
 {
-    match conduit {
-        Conduit::Hvc => wait_for(core, Wait::Nothing),
-        Conduit::Smc => wait_for(core.advance_pc(), Wait::Nothing),
+    let x = core.x;
+    let el1 = core.el1;
+    Core {
+        x,
+        elr: resumed_elr(conduit, core.elr),
+        spsr: core.spsr,
+        el1,
+        wait: Wait::Nothing,
+    }
+}
+
+// Gives one core the answer that it waits for.
+pub fn reply_core(core: Core, reply: HvcReply) -> CoreStep
+    ensures { λ r. ⌜ r ≡ replyCore core reply ⌝ }
+{
+    let wait = core.wait;
+    let values = reply.values;
+    match decide_reply(wait, reply.kind, values[0], reply.error) {
+        ReplyDecision::Taken(result, conduit) => {
+            let answered = result.modify_register_state(core, values);
+            CoreStep {
+                answer: CoreAnswer::Accepted,
+                core: resume(answered, conduit),
+            }
+        }
+        ReplyDecision::Refused(error) => CoreStep::refused(error, core),
     }
 }

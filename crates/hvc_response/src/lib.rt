@@ -4,7 +4,11 @@ ghost use mathlib.Core.List.{_∷_};
 ghost use Prim.Native.Nat.{_≤_};
 ghost use lib.ListN.{take, replicate};
 ghost use Rattle.hvc_response.specs.Response.{signedWord, withFirst, response, resultOfKind, resultKindNumber};
+use core_answers::CoreError;
 use exceptions::Core;
+
+// The values of the longest reply.
+pub const REPLY_VALUES: usize = 18;
 
 // The result of a forwarded call (document 01: a reply): RITM's `HvcResult` and `HvcResponse` in one. The four or eighteen values of a
 // success stand beside it.
@@ -19,7 +23,7 @@ pub enum HvcResult {
 // What `from_kind` answers.
 pub enum HvcResultKind {
     Result(HvcResult),
-    UnknownKind,
+    Refused(CoreError),
 }
 
 impl HvcResultKind {
@@ -29,7 +33,7 @@ impl HvcResultKind {
     {
         match self {
             HvcResultKind::Result(_) => 0,
-            HvcResultKind::UnknownKind => 15,
+            HvcResultKind::Refused(error) => error.number(),
         }
     }
 }
@@ -48,12 +52,12 @@ impl HvcResult {
             2 => HvcResultKind::Result(HvcResult::Success),
             3 => HvcResultKind::Result(HvcResult::SuccessLarge),
             4 => HvcResultKind::Result(HvcResult::Error(error)),
-            _ => HvcResultKind::UnknownKind,
+            _ => HvcResultKind::Refused(CoreError::UnknownReplyKind),
         }
     }
 
     // Applies the result to the saved registers, by the SMCCC's convention.
-    pub fn modify_register_state(self, core: Core, values: [u64; 18]) -> Core
+    pub fn modify_register_state(self, core: Core, values: [u64; REPLY_VALUES]) -> Core
         ensures { λ r. ⌜ r ≡ withFirst core (response self values) ⌝ }
     {
         match self {
@@ -62,7 +66,7 @@ impl HvcResult {
             }
             HvcResult::Value(value) => write_response_registers(core, one_value(value), 4),
             HvcResult::Success => write_response_registers(core, values, 4),
-            HvcResult::SuccessLarge => write_response_registers(core, values, 18),
+            HvcResult::SuccessLarge => write_response_registers(core, values, REPLY_VALUES),
             HvcResult::Error(error) => {
                 write_response_registers(core, one_value(error_to_u64(error)), 1)
             }
@@ -71,16 +75,16 @@ impl HvcResult {
 }
 
 // The value, and zeros after it.
-fn one_value(value: u64) -> [u64; 18]
+fn one_value(value: u64) -> [u64; REPLY_VALUES]
     ensures { λ r. ⌜ r ≡ value ∷ replicate 17 0 ⌝ }
 {
-    let mut values = [0u64; 18];
+    let mut values = [0u64; REPLY_VALUES];
     values[0] = value;
     values
 }
 
 // Writes the first `count` results to x0 and the registers after it.
-fn write_response_registers(core: Core, results: [u64; 18], count: usize) -> Core
+fn write_response_registers(core: Core, results: [u64; REPLY_VALUES], count: usize) -> Core
     requires { ⌜ count ≤ 18 ⌝ }
     ensures { λ r. ⌜ r ≡ withFirst core (take count results) ⌝ }
 {

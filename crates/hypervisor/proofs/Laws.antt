@@ -1,7 +1,7 @@
 -- Laws on the trap's parts that its functions' proofs cite. Assumes nothing.
-use Prim.Native.Nat.{ℕ, _-_}
-use mathlib.Core.Path.{_≡_, refl, sym, ap, _∙_}
-use mathlib.Core.Bool.{Bool, true, false, cond, true≢false}
+use Prim.Native.Nat.{ℕ}
+use mathlib.Core.Path.{_≡_, refl}
+use mathlib.Core.Bool.{Bool, true, false, cond}
 use borrow.Author.Tests.{eqb-true}
 use lib.Dec.{eqb}
 use Rattle.hypervisor.specs.declared.ExceptionClass.{ExceptionClass}
@@ -15,9 +15,8 @@ use Rattle.exceptions.specs.declared.Core.{Core}
 use Rattle.data_abort.specs.declared.TrapRegisters.{TrapRegisters}
 use Rattle.data_abort.specs.DataAbort.{handleDataAbort}
 use Rattle.forwarded_call.specs.ForwardedCall.{waits, forwardCall}
-use Rattle.hypervisor.specs.declared.TrapStep.{TrapStep}
-use Rattle.hypervisor.specs.Answers.{answered, refusedTrap}
-use Rattle.hypervisor.specs.Trap.{ec, classOf, exceptionClass, byClass, handleSyncLower}
+use Rattle.core_answers.specs.declared.TrapStep.{TrapStep}
+use Rattle.hypervisor.specs.Trap.{classOf, exceptionClass, byClass, handleSyncLower}
 
 -- what holds of each class where its EC is the one, holds of the class of an EC
 pub by-class : (P : ExceptionClass → Type 0) (class : ℕ) → (class ≡ 0x16 → P HvcTrappedInAArch64) → (class ≡ 0x17 → P SmcTrappedInAArch64)
@@ -44,7 +43,7 @@ pub trap-all : (P : Core → ℕ → Type 0) (regions : List MemoryAccessRegion)
     → ((conduit : Conduit) → P (forwardCall core conduit .core) counter)
     → P (handleDataAbort regions core counter trap .core) (handleDataAbort regions core counter trap .counter)
     → P (handleSyncLower regions core counter trap .core) (handleSyncLower regions core counter trap .counter)
-unfolding handleSyncLower byClass answered
+unfolding handleSyncLower byClass
 trap-all P regions core counter trap same call abort =
     cond-all (λ (s : TrapStep). P (s .core) (s .counter)) (waits (core .wait)) _ _ same (go (exceptionClass (trap .esr)))
   where

@@ -2,3 +2,7 @@
 pub mod Laws
 pub mod Refusals
 pub mod Steps
+pub mod Kept
+pub mod Waiting
+pub mod Counter
+pub mod InWords

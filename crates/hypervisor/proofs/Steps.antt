@@ -6,32 +6,33 @@ use mathlib.Core.List.{List}
 use native.Mathlib.Omega.{arith}
 use borrow.Author.Tests.{le-ltb}
 use lib.Dec.{ltb}
-use lib.ListN.{length, getD, set, length-set}
+use lib.ListN.{length, set, length-set}
 use lib.Seq.{getD-set-same, getD-set-other}
 use Rattle.lists.proofs.Laws.{cond-same, cond-map}
 use Rattle.stage2.specs.declared.Policy.{Policy}
 use Rattle.stage2.specs.Policy.{regionsHeld}
 use Rattle.data_abort.specs.declared.TrapRegisters.{TrapRegisters}
 use Rattle.exceptions.specs.declared.Core.{Core}
-use Rattle.hypervisor.specs.declared.CoreStep.{CoreStep}
+use Rattle.exceptions.specs.Registers.{coreOf, freshCore}
+use Rattle.core_answers.specs.declared.CoreStep.{CoreStep}
 use Rattle.hypervisor.specs.declared.CoresStep.{CoresStep}
-use Rattle.hypervisor.specs.declared.TrapStep.{TrapStep}
+use Rattle.core_answers.specs.declared.TrapStep.{TrapStep}
 use Rattle.hypervisor.specs.declared.Trapped.{Trapped}
 use Rattle.hypervisor.specs.Trap.{handleSyncLower}
-use Rattle.hypervisor.specs.Cores.{noCore, onCore, trapOn}
+use Rattle.hypervisor.specs.Cores.{onCore, trapOn}
 
 -- the cores with one of the eight replaced: a number above 7 names none
 abbrev replaced : List Core → ℕ → Core → List Core
 replaced cores i core = cond (ltb 7 i) cores (set cores i core)
 
 module _ (cores : List Core) (i : ℕ) (core : Core) where
-  replaced-own : i ≤ 7 → length cores ≡ 8 → getD (replaced cores i core) i noCore ≡ core
-  replaced-own h full = rw (le-ltb 7 i h) (getD-set-same cores i core noCore (omega arith))
+  replaced-own : i ≤ 7 → length cores ≡ 8 → coreOf (replaced cores i core) i ≡ core
+  replaced-own h full = rw (le-ltb 7 i h) (getD-set-same cores i core freshCore (omega arith))
 
-  replaced-other : (j : ℕ) → (j ≡ i → ⊥) → getD (replaced cores i core) j noCore ≡ getD cores j noCore
+  replaced-other : (j : ℕ) → (j ≡ i → ⊥) → coreOf (replaced cores i core) j ≡ coreOf cores j
   replaced-other j h =
-      cond-map (λ (l : List Core). getD l j noCore) (ltb 7 i) cores (set cores i core)
-      ∙ rw (getD-set-other cores i j core noCore h) (cond-same (ltb 7 i) (getD cores j noCore))
+      cond-map (λ (l : List Core). coreOf l j) (ltb 7 i) cores (set cores i core)
+      ∙ rw (getD-set-other cores i j core freshCore h) (cond-same (ltb 7 i) (coreOf cores j))
 
   replaced-places : length (replaced cores i core) ≡ length cores
   replaced-places =
@@ -44,18 +45,18 @@ module _ (policy : Policy) (cores : List Core) (counter i : ℕ) (trap : TrapReg
   abbrev after : Trapped
   after = trapOn policy cores counter i trap
 
-  trap-cores : after .cores ≡ replaced cores i (handleSyncLower (regionsHeld policy) (getD cores i noCore) counter trap .core)
+  trap-cores : after .cores ≡ replaced cores i (handleSyncLower (regionsHeld policy) (coreOf cores i) counter trap .core)
   unfolding trapOn
   trap-cores = cond-map (λ (t : Trapped). t .cores) (ltb 7 i) _ _
 
   pub trap-step : i ≤ 7 → length cores ≡ 8
       → _≡_ {A = TrapStep}
-      (record { answer = after .answer; values = after .values; core = getD (after .cores) i noCore; counter = after .counter })
-      (handleSyncLower (regionsHeld policy) (getD cores i noCore) counter trap)
+      (record { result = after .result; core = coreOf (after .cores) i; counter = after .counter })
+      (handleSyncLower (regionsHeld policy) (coreOf cores i) counter trap)
   unfolding trapOn
-  trap-step h full = rw (le-ltb 7 i h, getD-set-same cores i _ noCore (omega arith))
+  trap-step h full = rw (le-ltb 7 i h, getD-set-same cores i _ freshCore (omega arith))
 
-  pub trap-others : (j : ℕ) → (j ≡ i → ⊥) → getD (after .cores) j noCore ≡ getD cores j noCore
+  pub trap-others : (j : ℕ) → (j ≡ i → ⊥) → coreOf (after .cores) j ≡ coreOf cores j
   trap-others j h = rw trap-cores (replaced-other cores i _ j h)
 
   pub trap-places : length (after .cores) ≡ length cores
@@ -68,18 +69,18 @@ module _ (policy : Policy) (cores : List Core) (counter i : ℕ) (trap : TrapReg
 
 -- A save or a reply: the same.
 module _ (cores : List Core) (i : ℕ) (step : Core → CoreStep) where
-  core-cores : onCore cores i step .cores ≡ replaced cores i (step (getD cores i noCore) .core)
+  core-cores : onCore cores i step .cores ≡ replaced cores i (step (coreOf cores i) .core)
   unfolding onCore
   core-cores = cond-map (λ (s : CoresStep). s .cores) (ltb 7 i) _ _
 
   pub core-step : i ≤ 7 → length cores ≡ 8
       → _≡_ {A = CoreStep}
-      (record { answer = onCore cores i step .answer; core = getD (onCore cores i step .cores) i noCore })
-      (step (getD cores i noCore))
+      (record { answer = onCore cores i step .answer; core = coreOf (onCore cores i step .cores) i })
+      (step (coreOf cores i))
   unfolding onCore
-  core-step h full = rw (le-ltb 7 i h, getD-set-same cores i _ noCore (omega arith))
+  core-step h full = rw (le-ltb 7 i h, getD-set-same cores i _ freshCore (omega arith))
 
-  pub core-others : (j : ℕ) → (j ≡ i → ⊥) → getD (onCore cores i step .cores) j noCore ≡ getD cores j noCore
+  pub core-others : (j : ℕ) → (j ≡ i → ⊥) → coreOf (onCore cores i step .cores) j ≡ coreOf cores j
   core-others j h = rw core-cores (replaced-other cores i _ j h)
 
   pub core-places : length (onCore cores i step .cores) ≡ length cores

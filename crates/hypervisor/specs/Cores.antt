@@ -3,26 +3,24 @@ use Prim.Native.Nat.{ℕ}
 use mathlib.Core.Bool.{not, cond, _&&_, _||_}
 use mathlib.Core.List.{List, [], _∷_}
 use lib.Dec.{eqb, ltb}
-use lib.ListN.{getD, set, replicate}
+use lib.ListN.{set, replicate}
 use Rattle.lists.specs.Refusals.{Case, case}
 use Rattle.data_abort.specs.declared.TrapRegisters.{TrapRegisters}
 use Rattle.data_abort.specs.DataAbort.{injectionDue}
 use Rattle.forwarded_call.specs.declared.HvcReply.{HvcReply}
-use Rattle.forwarded_call.specs.declared.Replied.{Replied}
 use Rattle.forwarded_call.specs.ForwardedCall.{waits, waitsForFirmware, replyCore}
 use Rattle.exceptions.specs.declared.Core.{Core}
-use Rattle.exceptions.specs.declared.Wait.the-variants.{Nothing}
-use Rattle.exceptions.specs.Registers.{freshCore}
+use Rattle.exceptions.specs.Registers.{freshCore, coreOf}
 use Rattle.stage2.specs.declared.Policy.{Policy}
 use Rattle.stage2.specs.Policy.{regionsHeld}
-use Rattle.hypervisor.specs.declared.CoreAnswer.the-variants.{Accepted, Refused}
-use Rattle.hypervisor.specs.declared.CoreError.the-variants.{NoSuchCore, CoreWaiting}
-use Rattle.hypervisor.specs.declared.CoreStep.{CoreStep}
+use Rattle.core_answers.specs.declared.CoreAnswer.the-variants.{Accepted, Refused}
+use Rattle.core_answers.specs.declared.CoreError.the-variants.{NoSuchCore, CoreWaiting}
+use Rattle.core_answers.specs.declared.CoreStep.{CoreStep}
 use Rattle.hypervisor.specs.declared.CoresStep.{CoresStep}
-use Rattle.hypervisor.specs.declared.TrapAnswer.the-variants as trap-answer
-use Rattle.hypervisor.specs.declared.TrapStep.{TrapStep}
+use Rattle.core_answers.specs.declared.TrapAnswer.the-variants as trap-answer
+use Rattle.core_answers.specs.declared.TrapStep.{TrapStep}
 use Rattle.hypervisor.specs.declared.Trapped.{Trapped}
-use Rattle.hypervisor.specs.Answers.{noValues, refusedCore, replyAnswer}
+use Rattle.core_answers.specs.Answers.{withoutValues, refusedCore}
 use Rattle.hypervisor.specs.Trap.{ec, handleSyncLower}
 
 -- "There are 8 cores", each fresh
@@ -35,16 +33,6 @@ saveCore core x elr spsr =
     cond (waits (core .wait)) (refusedCore CoreWaiting core)
     (record { answer = Accepted; core = record { x = x; elr = elr; spsr = spsr; el1 = core .el1; wait = core .wait } })
 
--- what a place past the eight reads as: no call gets there
-unfoldable pub noCore : Core
-noCore = record {
-  x = [];
-  elr = 0;
-  spsr = 0;
-  el1 = record { elr = 0; spsr = 0; far = 0; esr = 0 };
-  wait = Nothing;
-}
-
 -- 10: "number above 7"
 abbrev pub noSuchCore : List Core → CoresStep
 noSuchCore cores = record { answer = Refused NoSuchCore; cores = cores }
@@ -55,25 +43,20 @@ placed cores i step = record { answer = step .answer; cores = set cores i (step 
 
 -- a step of one of the eight
 unfoldable pub onCore : List Core → ℕ → (Core → CoreStep) → CoresStep
-onCore cores i step = cond (ltb 7 i) (noSuchCore cores) (placed cores i (step (getD cores i noCore)))
+onCore cores i step = cond (ltb 7 i) (noSuchCore cores) (placed cores i (step (coreOf cores i)))
 
 -- `save`: "save 10, 11"
 unfoldable pub saveOn : List Core → ℕ → List ℕ → ℕ → ℕ → CoresStep
 saveOn cores i x elr spsr = onCore cores i (λ core. saveCore core x elr spsr)
 
--- one core's reply, as a step
-abbrev pub replyStep : Replied → CoreStep
-replyStep r = record { answer = replyAnswer (r .answer); core = r .core }
-
 -- `reply`: "reply 10, 14, 15"
 unfoldable pub replyOn : List Core → ℕ → HvcReply → CoresStep
-replyOn cores i reply = onCore cores i (λ core. replyStep (replyCore core reply))
+replyOn cores i reply = onCore cores i (λ core. replyCore core reply)
 
 -- a trap's step, of one of the eight
 abbrev pub trappedBy : TrapStep → Policy → List Core → ℕ → Trapped
 trappedBy step policy cores i = record {
-  answer = step .answer;
-  values = step .values;
+  result = step .result;
   policy = policy;
   cores = set cores i (step .core);
   counter = step .counter;
@@ -83,17 +66,17 @@ trappedBy step policy cores i = record {
 unfoldable pub trapOn : Policy → List Core → ℕ → ℕ → TrapRegisters → Trapped
 trapOn policy cores counter i trap =
     cond (ltb 7 i)
-    (record { answer = trap-answer.Refused NoSuchCore; values = noValues; policy = policy; cores = cores; counter = counter })
-    (trappedBy (handleSyncLower (regionsHeld policy) (getD cores i noCore) counter trap) policy cores i)
+    (record { result = withoutValues (trap-answer.Refused NoSuchCore); policy = policy; cores = cores; counter = counter })
+    (trappedBy (handleSyncLower (regionsHeld policy) (coreOf cores i) counter trap) policy cores i)
 
 -- the lines of the table that `save` meets, in its order
 abbrev pub saveCases : List Core → ℕ → List Case
-saveCases cores i = case 10 (ltb 7 i) ∷ case 11 (waits (getD cores i noCore .wait)) ∷ []
+saveCases cores i = case 10 (ltb 7 i) ∷ case 11 (waits (coreOf cores i .wait)) ∷ []
 
 -- the lines of the table that `reply` meets, in its order
 abbrev pub replyCases : List Core → ℕ → ℕ → List Case
 replyCases cores i kind =
-    let wait = getD cores i noCore .wait in
+    let wait = coreOf cores i .wait in
     case 10 (ltb 7 i)
     ∷ case 14 (not (waits wait))
     ∷ case 15 (ltb 4 kind || (waitsForFirmware wait && not (eqb kind 1 || eqb kind 4)))
@@ -102,7 +85,7 @@ replyCases cores i kind =
 -- the lines of the table that `trap` meets, in its order
 abbrev pub trapCases : Policy → List Core → ℕ → ℕ → TrapRegisters → List Case
 trapCases policy cores counter i trap =
-    let core = getD cores i noCore in
+    let core = coreOf cores i in
     let class = ec (trap .esr) in
     case 10 (ltb 7 i)
     ∷ case 11 (waits (core .wait))

@@ -1,68 +1,27 @@
 // RITM's src/hypervisor.rs: what a guest's trap does to its core, and the host's calls over the eight cores.
 ghost use mathlib.Core.Path.{_≡_};
 ghost use Prim.Native.Nat.{_<_};
-ghost use lib.ListN.{replicate};
 ghost use Rattle.lists.specs.Lists.{held};
-ghost use Rattle.hypervisor.specs.Answers.{coreErrorNumber, coreNumber, trapNumber, trapKind, abortAnswer, replyAnswer, answered, refusedTrap, forwarded, refusedCore};
-ghost use Rattle.hypervisor.specs.Trap.{exceptionClass, byClass, handleSyncLower};
+ghost use Rattle.hypervisor.specs.Trap.{exceptionClass, forwarded, byClass, handleSyncLower};
 ghost use Rattle.hypervisor.specs.Cores.{freshCores, saveCore, noSuchCore, placed, saveOn, replyOn, trapOn};
-use data_abort::AbortAnswer;
+use core_answers::CoreAnswer;
+use core_answers::CoreError;
+use core_answers::CoreStep;
+use core_answers::TrapAnswer;
+use core_answers::TrapResult;
+use core_answers::TrapStep;
 use data_abort::TrapRegisters;
 use exceptions::Conduit;
 use exceptions::Core;
-use exceptions::Recipient;
 use exceptions::Wait;
 use forwarded_call::ForwardedCall;
 use forwarded_call::HvcReply;
-use forwarded_call::ReplyAnswer;
-use memory_access::MemoryAccessKind;
 use stage2::Policy;
 use stage2_range::MemoryAccessRegion;
 
-// Why a call on a core is refused.
-pub enum CoreError {
-    NoSuchCore,
-    CoreWaiting,
-    UnexpectedExceptionClass,
-    NoGuestVector,
-    NothingWaiting,
-    UnknownReplyKind,
-}
-
-// What a trap answers.
-pub enum TrapAnswer {
-    // The load or the store is done.
-    AccessHandled(MemoryAccessKind),
-    AbortInjected,
-    // The guest's call is the recipient's to answer (document 01: a hand-out).
-    Forwarded(Recipient),
-    Refused(CoreError),
-}
-
-// What a save or a reply answers.
-pub enum CoreAnswer {
-    Accepted,
-    Refused(CoreError),
-}
-
-// What one core's trap answers, with the values of a forwarded call, and the core and the counter then.
-pub struct TrapStep {
-    pub answer: TrapAnswer,
-    pub values: [u64; 18],
-    pub core: Core,
-    pub counter: u64,
-}
-
-// What one core's save or reply comes to, and the core then.
-pub struct CoreStep {
-    pub answer: CoreAnswer,
-    pub core: Core,
-}
-
-// What `trap` answers, with the values of a forwarded call, and the state then.
+// What `trap` gives, and the state then.
 pub struct Trapped {
-    pub answer: TrapAnswer,
-    pub values: [u64; 18],
+    pub result: TrapResult,
     pub policy: Policy,
     pub cores: [Core; 8],
     pub counter: u64,
@@ -72,90 +31,6 @@ pub struct Trapped {
 pub struct CoresStep {
     pub answer: CoreAnswer,
     pub cores: [Core; 8],
-}
-
-impl CoreError {
-    // The refusal's number.
-    pub fn number(self) -> u64
-        ensures { λ r. ⌜ r ≡ coreErrorNumber self ⌝ }
-    {
-        match self {
-            CoreError::NoSuchCore => 10,
-            CoreError::CoreWaiting => 11,
-            CoreError::UnexpectedExceptionClass => 12,
-            CoreError::NoGuestVector => 13,
-            CoreError::NothingWaiting => 14,
-            CoreError::UnknownReplyKind => 15,
-        }
-    }
-}
-
-impl CoreAnswer {
-    // The answer's number in the table of refusals.
-    pub fn number(self) -> u64
-        ensures { λ r. ⌜ r ≡ coreNumber self ⌝ }
-    {
-        match self {
-            CoreAnswer::Accepted => 0,
-            CoreAnswer::Refused(e) => e.number(),
-        }
-    }
-}
-
-impl TrapAnswer {
-    // The answer's number in the table of refusals.
-    pub fn number(self) -> u64
-        ensures { λ r. ⌜ r ≡ trapNumber self ⌝ }
-    {
-        match self {
-            TrapAnswer::AccessHandled(_) => 0,
-            TrapAnswer::AbortInjected => 0,
-            TrapAnswer::Forwarded(_) => 0,
-            TrapAnswer::Refused(e) => e.number(),
-        }
-    }
-
-    // Which of the five accepted answers it is, from 1 on, and 0 for a refusal.
-    pub fn kind(self) -> u64
-        ensures { λ r. ⌜ r ≡ trapKind self ⌝ }
-    {
-        match self {
-            TrapAnswer::AccessHandled(kind) => match kind {
-                MemoryAccessKind::Read => 1,
-                MemoryAccessKind::Write => 2,
-            },
-            TrapAnswer::AbortInjected => 3,
-            TrapAnswer::Forwarded(recipient) => match recipient {
-                Recipient::Firmware => 4,
-                Recipient::Platform => 5,
-            },
-            TrapAnswer::Refused(_) => 0,
-        }
-    }
-}
-
-fn no_values() -> [u64; 18]
-    ensures { λ r. ⌜ r ≡ replicate 18 0 ⌝ }
-{
-    [0u64; 18]
-}
-
-// An answer without values.
-fn without_values(answer: TrapAnswer, core: Core, counter: u64) -> TrapStep
-    ensures { λ r. ⌜ r ≡ answered answer core counter ⌝ }
-{
-    TrapStep {
-        answer,
-        values: no_values(),
-        core,
-        counter,
-    }
-}
-
-fn refuse(error: CoreError, core: Core, counter: u64) -> TrapStep
-    ensures { λ r. ⌜ r ≡ refusedTrap error core counter ⌝ }
-{
-    without_values(TrapAnswer::Refused(error), core, counter)
 }
 
 // A trap of one core, by the regions that are held.
@@ -171,7 +46,7 @@ pub fn handle_sync_lower(
     let wait = core.wait;
     match wait {
         Wait::Nothing => dispatch(regions, region_count, core, counter, trap),
-        Wait::Call(_, _) => refuse(CoreError::CoreWaiting, core, counter),
+        Wait::Call(_, _) => TrapStep::refused(CoreError::CoreWaiting, core, counter),
     }
 }
 
@@ -192,12 +67,11 @@ fn dispatch(
             forwarded(forwarded_call::forward_call(core, Conduit::Smc), counter)
         }
         ExceptionClass::DataAbortLowerEl => {
-            let step = data_abort::handle_data_abort(regions, region_count, core, counter, trap);
-            let answer = step.answer;
-            let next = step.core;
-            without_values(abort_answer(answer), next, step.counter)
+            data_abort::handle_data_abort(regions, region_count, core, counter, trap)
         }
-        ExceptionClass::Unknown => refuse(CoreError::UnexpectedExceptionClass, core, counter),
+        ExceptionClass::Unknown => {
+            TrapStep::refused(CoreError::UnexpectedExceptionClass, core, counter)
+        }
     }
 }
 
@@ -226,38 +100,16 @@ pub fn exception_class(esr: u64) -> ExceptionClass
     }
 }
 
-// A data abort's answer among a trap's.
-fn abort_answer(answer: AbortAnswer) -> TrapAnswer
-    ensures { λ r. ⌜ r ≡ abortAnswer answer ⌝ }
-{
-    match answer {
-        AbortAnswer::Handled(kind) => TrapAnswer::AccessHandled(kind),
-        AbortAnswer::Injected => TrapAnswer::AbortInjected,
-        AbortAnswer::NoGuestVector => TrapAnswer::Refused(CoreError::NoGuestVector),
-    }
-}
-
 // A forwarded call as a trap's step.
 fn forwarded(call: ForwardedCall, counter: u64) -> TrapStep
     ensures { λ r. ⌜ r ≡ forwarded call counter ⌝ }
 {
-    let recipient = call.recipient;
-    let values = call.values;
+    let result = call.result;
     let core = call.core;
     TrapStep {
-        answer: TrapAnswer::Forwarded(recipient),
-        values,
+        result,
         core,
         counter,
-    }
-}
-
-fn refuse_core(error: CoreError, core: Core) -> CoreStep
-    ensures { λ r. ⌜ r ≡ refusedCore error core ⌝ }
-{
-    CoreStep {
-        answer: CoreAnswer::Refused(error),
-        core,
     }
 }
 
@@ -278,18 +130,7 @@ pub fn save_core(core: Core, x: [u64; 31], elr: u64, spsr: u64) -> CoreStep
                 wait,
             },
         },
-        Wait::Call(_, _) => refuse_core(CoreError::CoreWaiting, core),
-    }
-}
-
-// A reply's answer among those of a core.
-fn reply_answer(answer: ReplyAnswer) -> CoreAnswer
-    ensures { λ r. ⌜ r ≡ replyAnswer answer ⌝ }
-{
-    match answer {
-        ReplyAnswer::Accepted => CoreAnswer::Accepted,
-        ReplyAnswer::NothingWaiting => CoreAnswer::Refused(CoreError::NothingWaiting),
-        ReplyAnswer::UnknownReplyKind => CoreAnswer::Refused(CoreError::UnknownReplyKind),
+        Wait::Call(_, _) => CoreStep::refused(CoreError::CoreWaiting, core),
     }
 }
 
@@ -323,16 +164,7 @@ pub fn reply(cores: [Core; 8], core: u64, reply: HvcReply) -> CoresStep
     }
     let one = cores[core as usize];
     let step = forwarded_call::reply_core(one, reply);
-    let answer = step.answer;
-    let after = step.core;
-    place(
-        cores,
-        core,
-        CoreStep {
-            answer: reply_answer(answer),
-            core: after,
-        },
-    )
+    place(cores, core, step)
 }
 
 // Takes a core's trap.
@@ -347,8 +179,7 @@ pub fn trap(
 {
     if MAX_CORES <= core {
         return Trapped {
-            answer: TrapAnswer::Refused(CoreError::NoSuchCore),
-            values: no_values(),
+            result: TrapAnswer::Refused(CoreError::NoSuchCore).without_values(),
             policy,
             cores,
             counter,
@@ -357,14 +188,12 @@ pub fn trap(
     let one = cores[core as usize];
     let regions = policy.regions;
     let step = handle_sync_lower(regions, policy.region_count, one, counter, trap);
-    let answer = step.answer;
-    let values = step.values;
+    let result = step.result;
     let after = step.core;
     let mut next = cores;
     next[core as usize] = after;
     Trapped {
-        answer,
-        values,
+        result,
         policy,
         cores: next,
         counter: step.counter,

@@ -1,2 +1,3 @@
--- Laws of one core of lent bytes, in place.
+-- Laws that the proofs of this crate and of those above cite.
 pub mod InPlace
+pub mod Calls

@@ -1,30 +1,44 @@
 // One core of the bytes that a host lends, in place: the words that a step asks for are read and stored, and no others. A core above 7 reads as a fresh
 // one and takes no store.
 ghost use mathlib.Core.Path.{_≡_};
-ghost use mathlib.Core.List.{_∷_};
-ghost use Prim.Native.Nat.{_+_, _%_, _^_, _<_, min};
+ghost use mathlib.Core.List.{[]};
+ghost use Prim.Native.Nat.{_<_};
 ghost use lib.ListN.{getD};
-ghost use Rattle.lent_words.specs.Words.{bytesOf};
-ghost use Rattle.exceptions.specs.Registers.{advancePc, readGpr, writeGpr, withReturn};
-ghost use Rattle.forwarded_call.specs.ForwardedCall.{forwardedValues, withWait};
-ghost use Rattle.lent_cores.specs.Layout.{heldCore, storedCore, heldWord, storedWord};
+ghost use Rattle.core_answers.specs.Answers.{forwardedLength, resultWords};
+ghost use Rattle.lent_words.specs.Words.{bytesOf, Leaves};
+ghost use Rattle.exceptions.specs.Registers.{nextInstruction, advancePc, readGpr, writeGpr, withReturn};
+ghost use Rattle.forwarded_call.specs.ForwardedCall.{forwardedResult, withWait};
+ghost use Rattle.lent_cores.specs.Layout.{elrWord, coreLength, heldCore, storedCore, heldWord, storedWord};
+ghost use Rattle.lent_core.specs.Calls.{saveCall, readCall, writeCall};
+use core_answers::CoreError;
+use core_answers::FORWARDED_VALUES;
+use core_answers::TrapAnswer;
 use exceptions::FaultRegisters;
 use exceptions::GprRead;
 use exceptions::GprWrite;
+use exceptions::Recipient;
 use exceptions::Wait;
+use lent_cores::CORE_WORDS;
 use lent_cores::CORES_SIZE;
+use lent_cores::ELR_EL1_WORD;
+use lent_cores::ELR_WORD;
+use lent_cores::ESR_EL1_WORD;
+use lent_cores::FAR_EL1_WORD;
+use lent_cores::REGISTERS_SIZE;
+use lent_cores::SPSR_EL1_WORD;
+use lent_cores::SPSR_WORD;
 use lent_cores::TRAP_RESULT_SIZE;
-
-// Of an instruction, in bytes.
-const INSTRUCTION_LENGTH: u64 = 4;
+use lent_cores::WAIT_CODES;
+use lent_cores::WAIT_WORD;
+use lent_words::ONE_WORD;
 
 // One word of a core, 0 where there is no core of that number.
 fn get_at(cores: &[u8; CORES_SIZE], core: u64, word: usize) -> u64
-    requires { ⌜ word < 38 ⌝ }
+    requires { ⌜ word < coreLength ⌝ }
     ensures { λ r. ⌜ r ≡ heldWord (now (cores .entry)) core word ⌝ }
 {
     if core < 8 {
-        lent_words::get_word(cores, 38 * core as usize + word)
+        lent_words::get_word(cores, CORE_WORDS * core as usize + word)
     } else {
         0
     }
@@ -34,21 +48,21 @@ fn get_at(cores: &[u8; CORES_SIZE], core: u64, word: usize) -> u64
 pub fn get_wait(cores: &[u8; CORES_SIZE], core: u64) -> Wait
     ensures { λ r. ⌜ r ≡ heldCore (now (cores .entry)) core .wait ⌝ }
 {
-    lent_cores::wait_of(get_at(cores, core, 37))
+    lent_cores::wait_of(get_at(cores, core, WAIT_WORD))
 }
 
 // A core's ELR.
 pub fn get_elr(cores: &[u8; CORES_SIZE], core: u64) -> u64
     ensures { λ r. ⌜ r ≡ heldCore (now (cores .entry)) core .elr ⌝ }
 {
-    get_at(cores, core, 31)
+    get_at(cores, core, ELR_WORD)
 }
 
 // A core's SPSR.
 pub fn get_spsr(cores: &[u8; CORES_SIZE], core: u64) -> u64
     ensures { λ r. ⌜ r ≡ heldCore (now (cores .entry)) core .spsr ⌝ }
 {
-    get_at(cores, core, 32)
+    get_at(cores, core, SPSR_WORD)
 }
 
 // The value of a guest register.
@@ -62,52 +76,52 @@ pub fn get_gpr(cores: &[u8; CORES_SIZE], core: u64, index: usize) -> GprRead
     }
 }
 
-// One of the first `count` registers, zeros past them.
-fn first_at(cores: &[u8; CORES_SIZE], core: u64, count: usize, index: usize) -> u64
-    requires { ⌜ index < 18 ⌝ }
-    ensures { λ r. ⌜ r ≡ getD (forwardedValues (heldCore (now (cores .entry)) core .x) (min count 18)) index 0 ⌝ }
+// One of the registers that are handed out, and zero past them.
+fn forwarded_at(cores: &[u8; CORES_SIZE], core: u64, recipient: Recipient, index: usize) -> u64
+    requires { ⌜ index < forwardedLength ⌝ }
+    ensures { λ r. ⌜ r ≡ getD (forwardedResult recipient (heldCore (now (cores .entry)) core .x) .values) index 0 ⌝ }
 {
-    if index < count {
+    if index < forwarded_call::registers_for(recipient) {
         get_at(cores, core, index)
     } else {
         0
     }
 }
 
-// The result of a forwarded call: its kind, and the first registers, zeros past them.
+// The result of a forwarded call.
 pub fn put_forwarded(
     result: &mut [u8; TRAP_RESULT_SIZE],
-    kind: u64,
+    recipient: Recipient,
     cores: &[u8; CORES_SIZE],
     core: u64,
-    count: usize,
 )
-    ensures { λ _. ⌜ now (result .exit) ≡ bytesOf (kind ∷ forwardedValues (heldCore (now (cores .entry)) core .x) (min count 18)) ⌝ }
+    ensures { λ _. ⌜ now (result .exit) ≡ bytesOf (resultWords (forwardedResult recipient (heldCore (now (cores .entry)) core .x))) ⌝ }
 {
-    lent_words::put_word(result, 0, kind);
+    let answer = TrapAnswer::Forwarded(recipient);
+    lent_words::put_word(result, 0, answer.kind());
     let mut i: usize = 0;
-    while i < 18 {
-        lent_words::put_word(result, i + 1, first_at(cores, core, count, i));
+    while i < FORWARDED_VALUES {
+        lent_words::put_word(result, i + 1, forwarded_at(cores, core, recipient, i));
         i += 1;
     }
 }
 
 // Stores one word of a core, and nothing where there is no core of that number.
 fn put_at(cores: &mut [u8; CORES_SIZE], core: u64, word: usize, value: u64)
-    requires { ⌜ word < 38 ⌝ }
+    requires { ⌜ word < coreLength ⌝ }
     ensures { λ _. ⌜ now (cores .exit) ≡ storedWord (now (cores .entry)) core word value ⌝ }
 {
     if core < 8 {
-        lent_words::put_word(cores, 38 * core as usize + word, value);
+        lent_words::put_word(cores, CORE_WORDS * core as usize + word, value);
     }
 }
 
 // Stores an ELR past the instruction that it stands at.
 fn put_past(cores: &mut [u8; CORES_SIZE], core: u64, elr: u64)
-    ensures { λ _. ⌜ now (cores .exit) ≡ storedWord (now (cores .entry)) core 31 ((elr + 4) % 2 ^ 64) ⌝ }
+    ensures { λ _. ⌜ now (cores .exit) ≡ storedWord (now (cores .entry)) core elrWord (nextInstruction elr) ⌝ }
 {
-    let past = std::num::wrapping_add_u64(elr, INSTRUCTION_LENGTH);
-    put_at(cores, core, 31, past);
+    let past = exceptions::next_instruction(elr);
+    put_at(cores, core, ELR_WORD, past);
 }
 
 // A core past the instruction that trapped. Here and below, the core's words that are not stored stand as they would be stored, since they are bytes.
@@ -154,10 +168,10 @@ pub fn put_wait(cores: &mut [u8; CORES_SIZE], core: u64, wait: Wait)
 {
     lent_words::are_bytes(cores);
     if core < 8 {
-        let at = 38 * core as usize + 37;
+        let at = CORE_WORDS * core as usize + WAIT_WORD;
         let code = lent_words::kept_code(
             lent_words::get_word(cores, at),
-            5,
+            WAIT_CODES,
             lent_cores::wait_number(wait),
         );
         lent_words::put_word(cores, at, code);
@@ -171,12 +185,60 @@ pub fn put_return(cores: &mut [u8; CORES_SIZE], core: u64, elr: u64, spsr: u64, 
 {
     lent_words::are_bytes(cores);
     if core < 8 {
-        let at = 38 * core as usize;
-        lent_words::put_word(cores, at + 31, elr);
-        lent_words::put_word(cores, at + 32, spsr);
-        lent_words::put_word(cores, at + 33, el1.elr);
-        lent_words::put_word(cores, at + 34, el1.spsr);
-        lent_words::put_word(cores, at + 35, el1.far);
-        lent_words::put_word(cores, at + 36, el1.esr);
+        let at = CORE_WORDS * core as usize;
+        lent_words::put_word(cores, at + ELR_WORD, elr);
+        lent_words::put_word(cores, at + SPSR_WORD, spsr);
+        lent_words::put_word(cores, at + ELR_EL1_WORD, el1.elr);
+        lent_words::put_word(cores, at + SPSR_EL1_WORD, el1.spsr);
+        lent_words::put_word(cores, at + FAR_EL1_WORD, el1.far);
+        lent_words::put_word(cores, at + ESR_EL1_WORD, el1.esr);
     }
+}
+
+const LAST_CORE: u64 = 7;
+
+// Puts in a core's registers as the hardware saved them: refusals 10, 11.
+pub fn save(cores: &mut [u8; CORES_SIZE], core: u64, registers: &[u8; REGISTERS_SIZE]) -> u64
+    ensures { λ r. ⌜ Leaves (saveCall (now (cores .entry)) core (now (registers .entry))) r (now (cores .exit)) [] ⌝ }
+{
+    if LAST_CORE < core {
+        return CoreError::NoSuchCore.number();
+    }
+    let x = lent_cores::get_saved_x(registers);
+    let elr = lent_cores::get_saved_elr(registers);
+    let spsr = lent_cores::get_saved_spsr(registers);
+    let step = hypervisor::save_core(lent_cores::get_core(cores, core), x, elr, spsr);
+    let answer = step.answer;
+    let number = answer.number();
+    if number != 0 {
+        return number;
+    }
+    let after = step.core;
+    lent_cores::put_core(cores, core, after);
+    0
+}
+
+// The value of a guest register: refusals 10, 17.
+pub fn read_gpr(cores: &[u8; CORES_SIZE], core: u64, index: u64, result: &mut [u8; ONE_WORD]) -> u64
+    ensures { λ r. ⌜ Leaves (readCall (now (cores .entry)) core index) r (now (cores .entry)) (now (result .exit)) ⌝ }
+{
+    if LAST_CORE < core {
+        lent_words::put_one_word(result, 0);
+        return CoreError::NoSuchCore.number();
+    }
+    let read = get_gpr(cores, core, index as usize);
+    lent_words::put_one_word(result, read.value());
+    read.number()
+}
+
+// Writes a guest register: refusals 10, 17.
+pub fn write_gpr(cores: &mut [u8; CORES_SIZE], core: u64, index: u64, value: u64) -> u64
+    ensures { λ r. ⌜ Leaves (writeCall (now (cores .entry)) core index value) r (now (cores .exit)) [] ⌝ }
+{
+    if LAST_CORE < core {
+        return CoreError::NoSuchCore.number();
+    }
+    // A refusal stores the core as it stands: of bytes, that changes nothing.
+    lent_words::are_bytes(cores);
+    put_gpr(cores, core, index as usize, value).number()
 }

@@ -4,19 +4,21 @@ use mathlib.Core.Path.{_≡_, refl, ap, _∙_}
 use mathlib.Core.List.{List, [], _∷_, _++_}
 use native.Mathlib.Omega.{arith}
 use native.Mathlib.Nat.{zero-add}
-use lib.ListN.{length, getD, take, drop, length-append, List·getD-eq-default}
-use lib.Seq.{take-at, drop-at}
-use Rattle.lent_words.specs.Words.{wordAt, each, keptCode, FitsWord, Lent}
+use lib.ListN.{length, getD, take, drop, length-append, List·getD-eq-default, set}
+use lib.Seq.{take-at, drop-at, getD-set-same}
+use Rattle.lent_words.specs.Words.{wordAt, each, keptCode, FitsWord, Lent, Bytes}
 use Rattle.lent_words.proofs.Words.{getD-each, length-each, word-same}
-use Rattle.lent_words.proofs.RoundTrip.{Every, words-beside, lent-words, word-fits, code-fits, meaning-back}
-use Rattle.lent_words.proofs.Every.{every-append}
+use Rattle.lent_words.proofs.RoundTrip.{words-beside, lent-words, word-fits, code-fits, meaning-back}
+use Rattle.lent_words.proofs.Every.{every-append, every-each}
 use Rattle.lent_words.proofs.Records.{InWords, record-written, record-kept}
 use Rattle.exceptions.specs.declared.Conduit.the-variants.{Hvc, Smc}
 use Rattle.exceptions.specs.declared.Recipient.the-variants.{Firmware, Platform}
 use Rattle.exceptions.specs.declared.Wait.{Wait}
 use Rattle.exceptions.specs.declared.Wait.the-variants.{Nothing, Call}
 use Rattle.exceptions.specs.declared.Core.{Core}
-use Rattle.lent_cores.specs.Layout.{waitCodes, waitByCode, waitNumber, coreAt, faultWords, withCore, coresAt, counterAt, withCounter}
+use Rattle.exceptions.specs.Registers.{freshCore, coreOf}
+use Rattle.lent_cores.specs.Layout.{waitCodes, waitByCode, waitNumber, coreAt, faultWords, withCore, coresAt, counterAt, withCounter, coreLength, waitWord, counterWord, coresSize, elrWord, spsrWord, elrEl1Word, spsrEl1Word, farEl1Word, esrEl1Word}
+use Rattle.exceptions.proofs.InWords as core
 
 -- a code that names nothing else is nothing
 pub unknown-wait : (code : ℕ) → (code ≡ 1 → ⊥) → (code ≡ 2 → ⊥) → (code ≡ 3 → ⊥) → (code ≡ 4 → ⊥) → waitByCode code ≡ Nothing
@@ -42,8 +44,12 @@ pub length-cores : (cores : List ℕ) → length (coresAt cores) ≡ 8
 unfolding coresAt
 length-cores cores = length-each (coreAt cores) 0 8
 
+-- the core that was put in its place
+pub core-set : (cores : List ℕ) (i : ℕ) (core : Core) → i < 8 → coreOf (set (coresAt cores) i core) i ≡ core
+core-set cores i core h = getD-set-same (coresAt cores) i core freshCore (omega (arith, length-cores cores))
+
 -- the number of a wait is a code that means it
-pub wait-code : (w : Wait) → (waitNumber w < 5) × (waitByCode (waitNumber w) ≡ w)
+pub wait-code : (w : Wait) → (waitNumber w < length waitCodes) × (waitByCode (waitNumber w) ≡ w)
 unfolding waitByCode
 wait-code Nothing = (omega arith, refl)
 wait-code (Call Hvc Firmware) = (omega arith, refl)
@@ -52,9 +58,9 @@ wait-code (Call Smc Firmware) = (omega arith, refl)
 wait-code (Call Smc Platform) = (omega arith, refl)
 
 -- a wait that was written is read back
-pub wait-back : (old : ℕ) (w : Wait) → waitByCode (keptCode 5 old (waitNumber w)) ≡ w
+pub wait-back : (old : ℕ) (w : Wait) → waitByCode (keptCode (length waitCodes) old (waitNumber w)) ≡ w
 unfolding waitByCode
-wait-back old w = meaning-back waitByCode 5 (λ c l. List·getD-eq-default waitCodes Nothing {n = c} l) old (waitNumber w) (wait-code w .0) ∙ wait-code w .1
+wait-back old w = meaning-back waitByCode (length waitCodes) (λ c l. List·getD-eq-default waitCodes Nothing {n = c} l) old (waitNumber w) (wait-code w .0) ∙ wait-code w .1
 
 -- the core that words make
 abbrev pub coreFrom : List ℕ → Core
@@ -68,60 +74,72 @@ coreFrom ws =
       wait = waitByCode (getD rest 6 0);
     }
 
--- a core stands in 38 words
-pub core-in : (i : ℕ) → InWords (λ c. coreAt c i) coreFrom (38 * i) 38
+-- a core stands in its words
+pub core-in : (i : ℕ) → InWords (λ c. coreAt c i) coreFrom (coreLength * i) coreLength
 unfolding coreAt
 core-in i = record { reads = λ c. refl }
 
 -- the words that a core is stored as, past its registers
 abbrev pub restWords : List ℕ → ℕ → Core → List ℕ
-restWords b i c = c .elr ∷ c .spsr ∷ (faultWords (c .el1) ++ (keptCode 5 (wordAt b (38 * i + 37)) (waitNumber (c .wait)) ∷ []))
+restWords b i c = c .elr ∷ c .spsr ∷ (faultWords (c .el1) ++ (keptCode (length waitCodes) (wordAt b (coreLength * i + waitWord)) (waitNumber (c .wait)) ∷ []))
 
--- a core is stored as 38 words
-pub length-core : (b : List ℕ) (i : ℕ) (c : Core) → length (c .x) ≡ 31 → length (c .x ++ restWords b i c) ≡ 38
+-- a core is stored as so many words
+pub length-core : (b : List ℕ) (i : ℕ) (c : Core) → length (c .x) ≡ 31 → length (c .x ++ restWords b i c) ≡ coreLength
 length-core b i c registers = length-append (c .x) (restWords b i c) ∙ rw registers
 
--- the numbers of a core fit words
-abbrev pub CoreFits : Core → Type 0
-CoreFits c = Every FitsWord (c .x) × Every FitsWord (c .elr ∷ c .spsr ∷ faultWords (c .el1))
+-- a core that bytes hold is in words
+pub core-in-words : (b : List ℕ) → Bytes b → (i : ℕ) → core.InWords (coreAt b i)
+unfolding coreAt
+core-in-words b h i =
+    let at = coreLength * i in
+    let fits : (j : ℕ) → FitsWord (wordAt b (at + j)) = λ j. word-fits b (at + j) h in
+    record {
+      registers = length-each (λ j. wordAt b (at + j)) 0 31;
+      x-fits = every-each FitsWord (λ j. wordAt b (at + j)) fits 0 31;
+      rest-fits = (fits elrWord, (fits spsrWord, (fits elrEl1Word, (fits spsrEl1Word, (fits farEl1Word, (fits esrEl1Word, tt))))));
+    }
 
 -- A core that is stored at place `k`.
 module _ (b : List ℕ) (k : ℕ) where
   -- the core is read back
-  pub core-back : (c : Core) → Lent 2440 b → k < 8 → length (c .x) ≡ 31 → CoreFits c → coreAt (withCore b k c) k ≡ c
+  pub core-back : (c : Core) → Lent coresSize b → k < 8 → core.InWords c → coreAt (withCore b k c) k ≡ c
   unfolding withCore
-  core-back c lent h registers fits =
+  core-back c lent h words =
       let rest : List ℕ = restWords b k c in
-      record-written (core-in k) b (c .x ++ rest) (length-core b k c registers) (omega arith) (every-append FitsWord (c .x) rest (fits .0) (omega (arith, fits .1, code)))
-      ∙ rw (take-at (c .x) rest 31 registers, drop-at (c .x) rest 31 registers, wait-back old (c .wait))
+      record-written (core-in k) b (c .x ++ rest) (length-core b k c (words .registers)) (omega arith) (every-append FitsWord (c .x) rest (words .x-fits) (omega (arith, words .rest-fits, code)))
+      ∙ rw (take-at (c .x) rest 31 (words .registers), drop-at (c .x) rest 31 (words .registers), wait-back old (c .wait))
     where
       old : ℕ
-      old = wordAt b (38 * k + 37)
+      old = wordAt b (coreLength * k + waitWord)
 
-      code : FitsWord (keptCode 5 old (waitNumber (c .wait)))
-      code = code-fits 5 old (waitNumber (c .wait)) (word-fits b (38 * k + 37) (lent .bytes)) (omega (arith, wait-code (c .wait)))
+      code : FitsWord (keptCode (length waitCodes) old (waitNumber (c .wait)))
+      code = code-fits (length waitCodes) old (waitNumber (c .wait)) (word-fits b (coreLength * k + waitWord) (lent .bytes)) (omega (arith, wait-code (c .wait)))
 
   -- the other cores are as they were
   pub core-beside : (c : Core) (k′ : ℕ) → length (c .x) ≡ 31 → (k ≡ k′ → ⊥) → coreAt (withCore b k c) k′ ≡ coreAt b k′
   unfolding withCore
-  core-beside c k′ registers h = record-kept (core-in k′) b (38 * k) (c .x ++ restWords b k c) (omega (arith, length-core b k c registers))
+  core-beside c k′ registers h = record-kept (core-in k′) b (coreLength * k) (c .x ++ restWords b k c) (omega (arith, length-core b k c registers))
 
   -- a core leaves the counter as it was
   pub core-counter : (c : Core) → k < 8 → length (c .x) ≡ 31 → counterAt (withCore b k c) ≡ counterAt b
   unfolding withCore counterAt
-  core-counter c h registers = words-beside b (38 * k) (c .x ++ restWords b k c) 304 (omega (arith, length-core b k c registers))
+  core-counter c h registers = words-beside b (coreLength * k) (c .x ++ restWords b k c) counterWord (omega (arith, length-core b k c registers))
 
   -- the bytes with a core are lent bytes
-  pub core-lent : (c : Core) → Lent 2440 b → Lent 2440 (withCore b k c)
+  pub core-lent : (c : Core) → Lent coresSize b → Lent coresSize (withCore b k c)
   unfolding withCore
-  core-lent c lent = lent-words b (38 * k) (c .x ++ restWords b k c) lent
+  core-lent c lent = lent-words b (coreLength * k) (c .x ++ restWords b k c) lent
+
+  pub core-bytes : (c : Core) → Bytes b → Bytes (withCore b k c)
+  unfolding withCore
+  core-bytes c bytes = lent-words b (coreLength * k) (c .x ++ restWords b k c) (record { long = refl; bytes = bytes }) .bytes
 
 -- so are those with a counter
-pub counter-lent : (b : List ℕ) (n : ℕ) → Lent 2440 b → Lent 2440 (withCounter b n)
+pub counter-lent : (b : List ℕ) (n : ℕ) → Lent coresSize b → Lent coresSize (withCounter b n)
 unfolding withCounter
-counter-lent b n lent = lent-words b 304 (n ∷ []) lent
+counter-lent b n lent = lent-words b counterWord (n ∷ []) lent
 
 -- the counter that was stored is read back
-pub counter-back : (b : List ℕ) (n : ℕ) → length b ≡ 2440 → FitsWord n → counterAt (withCounter b n) ≡ n
+pub counter-back : (b : List ℕ) (n : ℕ) → length b ≡ coresSize → FitsWord n → counterAt (withCounter b n) ≡ n
 unfolding counterAt withCounter
-counter-back b n long fits = word-same b 304 n (omega arith) fits
+counter-back b n long fits = word-same b counterWord n (omega arith) fits

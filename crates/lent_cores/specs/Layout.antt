@@ -3,7 +3,7 @@ use Prim.Native.Nat.{ℕ, _+_, _*_}
 use mathlib.Core.Bool.{cond}
 use mathlib.Core.List.{List, [], _∷_, _++_}
 use lib.Dec.{ltb}
-use lib.ListN.{getD}
+use lib.ListN.{length, getD}
 use Rattle.lent_words.specs.Words.{wordAt, withWord, each, wordsAt, withWords, keptCode}
 use Rattle.exceptions.specs.declared.Conduit.the-variants.{Hvc, Smc}
 use Rattle.exceptions.specs.declared.Recipient.the-variants.{Firmware, Platform}
@@ -11,7 +11,20 @@ use Rattle.exceptions.specs.declared.Wait.{Wait}
 use Rattle.exceptions.specs.declared.Wait.the-variants.{Nothing, Call}
 use Rattle.exceptions.specs.declared.Core.{Core}
 use Rattle.exceptions.specs.declared.FaultRegisters.{FaultRegisters}
-use Rattle.exceptions.specs.Registers.{freshCore}
+use Rattle.exceptions.specs.Registers.{coreOf}
+
+-- the lengths of the lent buffers, in bytes: the cores, the registers of a save, the values of a reply, the result of a trap
+abbrev pub coresSize : ℕ
+coresSize = 2440
+
+abbrev pub registersSize : ℕ
+registersSize = 264
+
+abbrev pub valuesSize : ℕ
+valuesSize = 144
+
+abbrev pub trapResultSize : ℕ
+trapResultSize = 152
 
 -- what a core waits for, by its code; an unknown code is nothing
 abbrev pub waitCodes : List Wait
@@ -27,22 +40,49 @@ waitNumber (Call Hvc Platform) = 2
 waitNumber (Call Smc Firmware) = 3
 waitNumber (Call Smc Platform) = 4
 
--- A core is 38 words: x0 to x30, ELR, SPSR, ELR_EL1, SPSR_EL1, FAR_EL1, ESR_EL1 and the code of what it waits for. The eight stand from
--- word 0 on, the counter of the filtered MMIO page at word 304.
+-- the words of a core: x0 to x30, ELR, SPSR, ELR_EL1, SPSR_EL1, FAR_EL1, ESR_EL1 and the code of what it waits for
+abbrev pub elrWord : ℕ
+elrWord = 31
+
+abbrev pub spsrWord : ℕ
+spsrWord = 32
+
+abbrev pub elrEl1Word : ℕ
+elrEl1Word = 33
+
+abbrev pub spsrEl1Word : ℕ
+spsrEl1Word = 34
+
+abbrev pub farEl1Word : ℕ
+farEl1Word = 35
+
+abbrev pub esrEl1Word : ℕ
+esrEl1Word = 36
+
+abbrev pub waitWord : ℕ
+waitWord = 37
+
+abbrev pub coreLength : ℕ
+coreLength = 38
+
+-- the eight cores stand from word 0 on, the counter of the filtered MMIO page after them
+abbrev pub counterWord : ℕ
+counterWord = 304
+
 unfoldable pub coreAt : List ℕ → ℕ → Core
 coreAt cores i =
-    let at = 38 * i in
+    let at = coreLength * i in
     record {
       x = wordsAt cores at 31;
-      elr = wordAt cores (at + 31);
-      spsr = wordAt cores (at + 32);
+      elr = wordAt cores (at + elrWord);
+      spsr = wordAt cores (at + spsrWord);
       el1 = record {
-        elr = wordAt cores (at + 33);
-        spsr = wordAt cores (at + 34);
-        far = wordAt cores (at + 35);
-        esr = wordAt cores (at + 36);
+        elr = wordAt cores (at + elrEl1Word);
+        spsr = wordAt cores (at + spsrEl1Word);
+        far = wordAt cores (at + farEl1Word);
+        esr = wordAt cores (at + esrEl1Word);
       };
-      wait = waitByCode (wordAt cores (at + 37));
+      wait = waitByCode (wordAt cores (at + waitWord));
     }
 
 abbrev pub faultWords : FaultRegisters → List ℕ
@@ -50,17 +90,17 @@ faultWords el1 = el1 .elr ∷ el1 .spsr ∷ el1 .far ∷ el1 .esr ∷ []
 
 unfoldable pub withCore : List ℕ → ℕ → Core → List ℕ
 withCore cores i core =
-    let at = 38 * i in
-    let wait = keptCode 5 (wordAt cores (at + 37)) (waitNumber (core .wait)) in
+    let at = coreLength * i in
+    let wait = keptCode (length waitCodes) (wordAt cores (at + waitWord)) (waitNumber (core .wait)) in
     withWords cores at (core .x ++ (core .elr ∷ core .spsr ∷ (faultWords (core .el1) ++ (wait ∷ []))))
 
 -- the eight cores that the bytes hold
 unfoldable pub coresAt : List ℕ → List Core
 coresAt cores = each (coreAt cores) 0 8
 
--- a core by its number; where there is none of that number, a fresh one
+-- a core by its number, a fresh one where there is none of that number
 abbrev pub heldCore : List ℕ → ℕ → Core
-heldCore cores i = getD (coresAt cores) i freshCore
+heldCore cores i = coreOf (coresAt cores) i
 
 -- the bytes with a core stored, and as they were where there is none of that number
 abbrev pub storedCore : List ℕ → ℕ → Core → List ℕ
@@ -68,13 +108,13 @@ storedCore cores i core = cond (ltb 7 i) cores (withCore cores i core)
 
 -- the same of one word of a core
 abbrev pub heldWord : List ℕ → ℕ → ℕ → ℕ
-heldWord cores i word = cond (ltb 7 i) 0 (wordAt cores (38 * i + word))
+heldWord cores i word = cond (ltb 7 i) 0 (wordAt cores (coreLength * i + word))
 
 abbrev pub storedWord : List ℕ → ℕ → ℕ → ℕ → List ℕ
-storedWord cores i word value = cond (ltb 7 i) cores (withWord cores (38 * i + word) value)
+storedWord cores i word value = cond (ltb 7 i) cores (withWord cores (coreLength * i + word) value)
 
 unfoldable pub counterAt : List ℕ → ℕ
-counterAt cores = wordAt cores 304
+counterAt cores = wordAt cores counterWord
 
 unfoldable pub withCounter : List ℕ → ℕ → List ℕ
-withCounter cores counter = withWord cores 304 counter
+withCounter cores counter = withWord cores counterWord counter

@@ -1,10 +1,12 @@
 // Where the bytes that a host lends hold the cores, the counter, and what goes into a core's calls and comes out: little-endian 64-bit words at fixed
 // places. Any bytes are eight cores.
 ghost use mathlib.Core.Path.{_≡_};
-ghost use mathlib.Core.List.{_∷_};
 ghost use Prim.Native.Nat.{_+_, _≤_, _<_};
+ghost use Rattle.core_answers.specs.Answers.{resultWords};
 ghost use Rattle.lent_words.specs.Words.{wordAt, wordsAt, withWord, withWords, storeEach, bytesOf};
-ghost use Rattle.lent_cores.specs.Layout.{faultWords, waitByCode, waitNumber, coreAt, heldCore, storedCore, counterAt, withCore, withCounter};
+ghost use Rattle.lent_cores.specs.Layout.{elrWord, spsrWord, elrEl1Word, faultWords, waitByCode, waitNumber, coreAt, heldCore, storedCore, counterAt, withCore, withCounter};
+use core_answers::FORWARDED_VALUES;
+use core_answers::TrapResult;
 use exceptions::Conduit;
 use exceptions::Core;
 use exceptions::FaultRegisters;
@@ -19,6 +21,29 @@ pub const REGISTERS_SIZE: usize = 264;
 pub const VALUES_SIZE: usize = 144;
 
 pub const TRAP_RESULT_SIZE: usize = 152;
+
+// The words of a core: x0 to x30, then ELR, SPSR, ELR_EL1, SPSR_EL1, FAR_EL1, ESR_EL1 and the code of what it waits for.
+pub const ELR_WORD: usize = 31;
+
+pub const SPSR_WORD: usize = 32;
+
+pub const ELR_EL1_WORD: usize = 33;
+
+pub const SPSR_EL1_WORD: usize = 34;
+
+pub const FAR_EL1_WORD: usize = 35;
+
+pub const ESR_EL1_WORD: usize = 36;
+
+pub const WAIT_WORD: usize = 37;
+
+pub const CORE_WORDS: usize = 38;
+
+// The counter stands after the eight cores.
+const COUNTER_WORD: usize = 304;
+
+// How many codes there are of what a core waits for.
+pub const WAIT_CODES: u64 = 5;
 
 // What a core waits for, by its code.
 pub fn wait_of(code: u64) -> Wait
@@ -81,19 +106,19 @@ fn get_one(cores: &[u8; CORES_SIZE], core: usize) -> Core
     requires { ⌜ core < 8 ⌝ }
     ensures { λ r. ⌜ r ≡ coreAt (now (cores .entry)) core ⌝ }
 {
-    let at = 38 * core;
+    let at = CORE_WORDS * core;
     let el1 = FaultRegisters {
-        elr: lent_words::get_word(cores, at + 33),
-        spsr: lent_words::get_word(cores, at + 34),
-        far: lent_words::get_word(cores, at + 35),
-        esr: lent_words::get_word(cores, at + 36),
+        elr: lent_words::get_word(cores, at + ELR_EL1_WORD),
+        spsr: lent_words::get_word(cores, at + SPSR_EL1_WORD),
+        far: lent_words::get_word(cores, at + FAR_EL1_WORD),
+        esr: lent_words::get_word(cores, at + ESR_EL1_WORD),
     };
     Core {
         x: get_x(cores, at),
-        elr: lent_words::get_word(cores, at + 31),
-        spsr: lent_words::get_word(cores, at + 32),
+        elr: lent_words::get_word(cores, at + ELR_WORD),
+        spsr: lent_words::get_word(cores, at + SPSR_WORD),
         el1,
-        wait: wait_of(lent_words::get_word(cores, at + 37)),
+        wait: wait_of(lent_words::get_word(cores, at + WAIT_WORD)),
     }
 }
 
@@ -112,12 +137,12 @@ fn put_x(bytes: &mut [u8], from: usize, x: [u64; 31])
 // The EL1 registers of the core that stands from a place on.
 fn put_el1(cores: &mut [u8; CORES_SIZE], at: usize, el1: FaultRegisters)
     requires { ⌜ at ≤ 266 ⌝ }
-    ensures { λ _. ⌜ now (cores .exit) ≡ storeEach (λ b j w. withWord b (at + j) w) (now (cores .entry)) 33 (faultWords el1) ⌝ }
+    ensures { λ _. ⌜ now (cores .exit) ≡ storeEach (λ b j w. withWord b (at + j) w) (now (cores .entry)) elrEl1Word (faultWords el1) ⌝ }
 {
-    lent_words::put_word(cores, at + 33, el1.elr);
-    lent_words::put_word(cores, at + 34, el1.spsr);
-    lent_words::put_word(cores, at + 35, el1.far);
-    lent_words::put_word(cores, at + 36, el1.esr);
+    lent_words::put_word(cores, at + ELR_EL1_WORD, el1.elr);
+    lent_words::put_word(cores, at + SPSR_EL1_WORD, el1.spsr);
+    lent_words::put_word(cores, at + FAR_EL1_WORD, el1.far);
+    lent_words::put_word(cores, at + ESR_EL1_WORD, el1.esr);
 }
 
 // Stores a core, and nothing where there is no core of that number.
@@ -134,30 +159,34 @@ fn put_one(cores: &mut [u8; CORES_SIZE], core: usize, value: Core)
     requires { ⌜ core < 8 ⌝ }
     ensures { λ _. ⌜ now (cores .exit) ≡ withCore (now (cores .entry)) core value ⌝ }
 {
-    let at = 38 * core;
+    let at = CORE_WORDS * core;
     let x = value.x;
     let el1 = value.el1;
     let wait = value.wait;
-    let code = lent_words::kept_code(lent_words::get_word(cores, at + 37), 5, wait_number(wait));
+    let code = lent_words::kept_code(
+        lent_words::get_word(cores, at + WAIT_WORD),
+        WAIT_CODES,
+        wait_number(wait),
+    );
     put_x(cores, at, x);
-    lent_words::put_word(cores, at + 31, value.elr);
-    lent_words::put_word(cores, at + 32, value.spsr);
+    lent_words::put_word(cores, at + ELR_WORD, value.elr);
+    lent_words::put_word(cores, at + SPSR_WORD, value.spsr);
     put_el1(cores, at, el1);
-    lent_words::put_word(cores, at + 37, code);
+    lent_words::put_word(cores, at + WAIT_WORD, code);
 }
 
 // The counter of the filtered MMIO page.
 pub fn get_counter(cores: &[u8; CORES_SIZE]) -> u64
     ensures { λ r. ⌜ r ≡ counterAt (now (cores .entry)) ⌝ }
 {
-    lent_words::get_word(cores, 304)
+    lent_words::get_word(cores, COUNTER_WORD)
 }
 
 // Stores the counter.
 pub fn put_counter(cores: &mut [u8; CORES_SIZE], counter: u64)
     ensures { λ _. ⌜ now (cores .exit) ≡ withCounter (now (cores .entry)) counter ⌝ }
 {
-    lent_words::put_word(cores, 304, counter);
+    lent_words::put_word(cores, COUNTER_WORD, counter);
 }
 
 // x0 to x30 as the hardware saved them.
@@ -169,25 +198,27 @@ pub fn get_saved_x(registers: &[u8; REGISTERS_SIZE]) -> [u64; 31]
 
 // ELR as the hardware saved it.
 pub fn get_saved_elr(registers: &[u8; REGISTERS_SIZE]) -> u64
-    ensures { λ r. ⌜ r ≡ wordAt (now (registers .entry)) 31 ⌝ }
+    ensures { λ r. ⌜ r ≡ wordAt (now (registers .entry)) elrWord ⌝ }
 {
-    lent_words::get_word(registers, 31)
+    lent_words::get_word(registers, ELR_WORD)
 }
 
 // SPSR as the hardware saved it.
 pub fn get_saved_spsr(registers: &[u8; REGISTERS_SIZE]) -> u64
-    ensures { λ r. ⌜ r ≡ wordAt (now (registers .entry)) 32 ⌝ }
+    ensures { λ r. ⌜ r ≡ wordAt (now (registers .entry)) spsrWord ⌝ }
 {
-    lent_words::get_word(registers, 32)
+    lent_words::get_word(registers, SPSR_WORD)
 }
 
-// The result of a trap: its kind, and the values of a forwarded call.
-pub fn put_trap_result(result: &mut [u8; TRAP_RESULT_SIZE], kind: u64, values: [u64; 18])
-    ensures { λ _. ⌜ now (result .exit) ≡ bytesOf (kind ∷ values) ⌝ }
+// The result of a trap.
+pub fn put_trap_result(result: &mut [u8; TRAP_RESULT_SIZE], trap: TrapResult)
+    ensures { λ _. ⌜ now (result .exit) ≡ bytesOf (resultWords trap) ⌝ }
 {
-    lent_words::put_word(result, 0, kind);
+    let answer = trap.answer;
+    let values = trap.values;
+    lent_words::put_word(result, 0, answer.kind());
     let mut i: usize = 0;
-    while i < 18 {
+    while i < FORWARDED_VALUES {
         lent_words::put_word(result, i + 1, values[i]);
         i += 1;
     }

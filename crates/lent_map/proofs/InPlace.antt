@@ -21,16 +21,16 @@ use Rattle.simple_map.specs.declared.Lookup.the-variants.{Nothing, Value}
 use Rattle.simple_map.specs.declared.Insertion.the-variants.{Accepted, CapacityExceeded}
 use Rattle.simple_map.specs.Map.{freePlace, taken, isFree, holdsKey, valueOf, without, getItem, insertItem}
 use Rattle.simple_map.proofs.Laws.{get-at, without-at, insert-at}
-use Rattle.lent_map.specs.Layout.{placeAt, placeWords, withPlace, mapAt, withPlaces}
+use Rattle.lent_map.specs.Layout.{placeAt, placeWords, withPlace, mapAt, withPlaces, placeLength, keyWord, entryPointWord, contextIdWord}
 use Rattle.lent_map.proofs.Records.{place-beside}
 
 -- the value that stands in the words of a place
 abbrev pub valueAt : List ℕ → ℕ → SuspendCoreData
-valueAt b k = record { «entry_point» = wordAt b (4 * k + 2); «context_id» = wordAt b (4 * k + 3) }
+valueAt b k = record { «entry_point» = wordAt b (placeLength * k + entryPointWord); «context_id» = wordAt b (placeLength * k + contextIdWord) }
 
 -- the place that its words make, where it is taken and where it is free
 abbrev standing : List ℕ → ℕ → Bool → Place
-standing b k t = cond t (taken (wordAt b (4 * k + 1)) (valueAt b k)) freePlace
+standing b k t = cond t (taken (wordAt b (placeLength * k + keyWord)) (valueAt b k)) freePlace
 
 -- there are eight places
 pub eight : (b : List ℕ) → length (mapAt b .items) ≡ 8
@@ -53,20 +53,20 @@ not-taken w h = go (ltb w 2) refl
 -- to store a place as it stands changes nothing
 pub place-same : (b : List ℕ) (k : ℕ) → Bytes b → withPlace b k (placeAt b k) ≡ b
 unfolding placeAt withPlace
-place-same b k h = go (eqb (wordAt b (4 * k)) 1) refl
+place-same b k h = go (eqb (wordAt b (placeLength * k)) 1) refl
   where
-    kept : (code : ℕ) → readCode 2 (wordAt b (4 * k)) ≡ code → keptCode 2 (wordAt b (4 * k)) code ≡ wordAt b (4 * k + 0)
-    kept code e = ap (keptCode 2 (wordAt b (4 * k))) (sym e) ∙ code-kept 2 (wordAt b (4 * k)) ∙ ap (wordAt b) (sym (add-zero (4 * k)))
+    kept : (code : ℕ) → readCode 2 (wordAt b (placeLength * k)) ≡ code → keptCode 2 (wordAt b (placeLength * k)) code ≡ wordAt b (placeLength * k + 0)
+    kept code e = ap (keptCode 2 (wordAt b (placeLength * k))) (sym e) ∙ code-kept 2 (wordAt b (placeLength * k)) ∙ ap (wordAt b) (sym (add-zero (placeLength * k)))
 
-    go : (t : Bool) → eqb (wordAt b (4 * k)) 1 ≡ t
-        → withWords b (4 * k) (placeWords (wordAt b (4 * k)) (standing b k t .item)) ≡ b
-    go true e = rw (kept 1 (ap (readCode 2) (eqb-true (wordAt b (4 * k)) 1 e))) (words-rewritten b (4 * k) 4 h)
-    go false e = rw (kept 0 (not-taken (wordAt b (4 * k)) (eqb-false (wordAt b (4 * k)) 1 e))) (words-rewritten b (4 * k) 1 h)
+    go : (t : Bool) → eqb (wordAt b (placeLength * k)) 1 ≡ t
+        → withWords b (placeLength * k) (placeWords (wordAt b (placeLength * k)) (standing b k t .item)) ≡ b
+    go true e = rw (kept 1 (ap (readCode 2) (eqb-true (wordAt b (placeLength * k)) 1 e))) (words-rewritten b (placeLength * k) placeLength h)
+    go false e = rw (kept 0 (not-taken (wordAt b (placeLength * k)) (eqb-false (wordAt b (placeLength * k)) 1 e))) (words-rewritten b (placeLength * k) 1 h)
 
 -- bytes are bytes after a place is stored
 place-stays : (b : List ℕ) (k : ℕ) (p : Place) → Bytes b → Bytes (withPlace b k p)
 unfolding withPlace
-place-stays b k p h = lent-words b (4 * k) (placeWords (wordAt b (4 * k)) (p .item)) (record { long = refl; bytes = h }) .bytes
+place-stays b k p h = lent-words b (placeLength * k) (placeWords (wordAt b (placeLength * k)) (p .item)) (record { long = refl; bytes = h }) .bytes
 
 -- places of which one differs are stored by one store
 one-from : (b : List ℕ) (k n i : ℕ) (p : Place) → i < n → Bytes b → storeEach withPlace b k (set (each (placeAt b) k n) i p) ≡ withPlace b (k + i) p
@@ -133,7 +133,7 @@ module _ (b : List ℕ) (key held : ℕ) (at-key : held ≡ firstIndex (holdsKey
 
       go : (t : Bool) → ltb held 8 ≡ t → cond t (valueOf (getD (mapAt b .items) held freePlace)) Nothing ≡ cond t (Value (valueAt b held)) Nothing
       go true e =
-          ap valueOf (place-of b held freePlace (ltb-true held 8 e)) ∙ value (eqb (wordAt b (4 * held)) 1) (fits-there b (holdsKey key) held at-key (ltb-true held 8 e))
+          ap valueOf (place-of b held freePlace (ltb-true held 8 e)) ∙ value (eqb (wordAt b (placeLength * held)) 1) (fits-there b (holdsKey key) held at-key (ltb-true held 8 e))
       go false e = refl
 
   -- a remove frees that place
@@ -177,7 +177,7 @@ module _ (b : List ℕ) (key held : ℕ) (at-key : held ≡ firstIndex (holdsKey
     apart : held < 8 → held ≡ free → ⊥
     unfolding placeAt isFree holdsKey
     apart l e =
-        go (eqb (wordAt b (4 * held)) 1) (fits-there b (holdsKey key) held at-key l) (fits-there b isFree held (e ∙ at-free) l)
+        go (eqb (wordAt b (placeLength * held)) 1) (fits-there b (holdsKey key) held at-key l) (fits-there b isFree held (e ∙ at-free) l)
       where
         go : (t : Bool) → holdsKey key (standing b held t) ≡ true → isFree (standing b held t) ≡ true → ⊥
         go true e f = true≢false (sym f)

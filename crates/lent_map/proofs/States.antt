@@ -8,27 +8,27 @@ use Rattle.lent_words.proofs.RoundTrip.{Every, store-stays, array-back, lent-wo
 use Rattle.lent_words.proofs.Records.{each-constant, zero-record}
 use Rattle.simple_map.specs.declared.Place.{Place}
 use Rattle.simple_map.specs.Map.{emptyMap}
-use Rattle.lent_map.specs.Layout.{placeAt, placeWords, withPlace, mapAt, withPlaces}
+use Rattle.lent_map.specs.Layout.{placeAt, placeWords, withPlace, mapAt, withPlaces, placeLength, mapSize}
 use Rattle.lent_map.proofs.Records.{ItemFits, placeFrom, place-in, place-back, place-beside}
 
 -- zero bytes are the empty map
-pub fresh-map : mapAt (replicate 256 0) ≡ emptyMap
+pub fresh-map : mapAt (replicate mapSize 0) ≡ emptyMap
 unfolding mapAt emptyMap
-fresh-map = rw (each-constant (placeAt (replicate 256 0)) (placeFrom (replicate 4 0)) (λ k. zero-record (place-in k) 256) 0 8)
+fresh-map = rw (each-constant (placeAt (replicate mapSize 0)) (placeFrom (replicate placeLength 0)) (λ k. zero-record (place-in k) mapSize) 0 8)
 
 -- the places of the map that were stored are read back
-pub places-back : (b : List ℕ) (items : List Place) → Lent 256 b → length items ≡ 8 → Every (λ p. ItemFits (p .item)) items
+pub places-back : (b : List ℕ) (items : List Place) → Lent mapSize b → length items ≡ 8 → Every (λ p. ItemFits (p .item)) items
     → mapAt (withPlaces b items) ≡ record { items = items }
 unfolding mapAt withPlaces withPlace
 places-back b items lent all fits = λ i. record { items = places i }
   where
     places : each (placeAt (withPlaces b items)) 0 8 ≡ items
     places =
-        array-back placeAt withPlace (Lent 256) (λ p. ItemFits (p .item)) 8
-        (λ c k p h. lent-words c (4 * k) (placeWords (wordAt c (4 * k)) (p .item)) h) place-back place-beside items b lent all fits
+        array-back placeAt withPlace (Lent mapSize) (λ p. ItemFits (p .item)) 8
+        (λ c k p h. lent-words c (placeLength * k) (placeWords (wordAt c (placeLength * k)) (p .item)) h) place-back place-beside items b lent all fits
 
 -- the bytes with other places are lent bytes
-pub places-lent : (b : List ℕ) (items : List Place) → Lent 256 b → Lent 256 (withPlaces b items)
+pub places-lent : (b : List ℕ) (items : List Place) → Lent mapSize b → Lent mapSize (withPlaces b items)
 unfolding withPlaces withPlace
 places-lent b items lent =
-    store-stays withPlace (Lent 256) (λ c k p h. lent-words c (4 * k) (placeWords (wordAt c (4 * k)) (p .item)) h) items b 0 lent
+    store-stays withPlace (Lent mapSize) (λ c k p h. lent-words c (placeLength * k) (placeWords (wordAt c (placeLength * k)) (p .item)) h) items b 0 lent

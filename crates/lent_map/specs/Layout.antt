@@ -10,12 +10,28 @@ use Rattle.simple_map.specs.declared.Place.{Place}
 use Rattle.simple_map.specs.declared.SimpleMap.{SimpleMap}
 use Rattle.simple_map.specs.Map.{freePlace, taken}
 
--- A place of the suspend map is 4 words: 1 where it is taken, key, entry point, context id. The eight stand from word 0 on.
+-- the length of the map's buffer, in bytes
+abbrev pub mapSize : ℕ
+mapSize = 256
+
+-- the words of a place of the suspend map: 1 where it is taken, then key, entry point and context id; the eight stand from word 0 on
+abbrev pub keyWord : ℕ
+keyWord = 1
+
+abbrev pub entryPointWord : ℕ
+entryPointWord = 2
+
+abbrev pub contextIdWord : ℕ
+contextIdWord = 3
+
+abbrev pub placeLength : ℕ
+placeLength = 4
+
 unfoldable pub placeAt : List ℕ → ℕ → Place
 placeAt map k =
-    let at = 4 * k in
+    let at = placeLength * k in
     cond (eqb (wordAt map at) 1)
-    (taken (wordAt map (at + 1)) (record { «entry_point» = wordAt map (at + 2); «context_id» = wordAt map (at + 3) }))
+    (taken (wordAt map (at + keyWord)) (record { «entry_point» = wordAt map (at + entryPointWord); «context_id» = wordAt map (at + contextIdWord) }))
     freePlace
 
 -- the words of a place, where its first word was `old`: a place that becomes free keeps the other three
@@ -24,7 +40,7 @@ placeWords old None = keptCode 2 old 0 ∷ []
 placeWords old (Some i) = keptCode 2 old 1 ∷ i .key ∷ i .value .«entry_point» ∷ i .value .«context_id» ∷ []
 
 unfoldable pub withPlace : List ℕ → ℕ → Place → List ℕ
-withPlace map k place = withWords map (4 * k) (placeWords (wordAt map (4 * k)) (place .item))
+withPlace map k place = withWords map (placeLength * k) (placeWords (wordAt map (placeLength * k)) (place .item))
 
 unfoldable pub mapAt : List ℕ → SimpleMap
 mapAt map = record { items = each (placeAt map) 0 8 }

@@ -1,30 +1,36 @@
 // A reply to a forwarded call on the bytes that a host lends, in place: it stores the registers that the reply writes, ELR and the wait, and makes the
 // decisions of `forwarded_call` and `hvc_response`.
 ghost use mathlib.Core.Path.{_≡_};
+ghost use mathlib.Core.List.{[]};
 ghost use Prim.Native.Nat.{_+_, _<_, _≤_};
 ghost use lib.ListN.{take};
-ghost use Rattle.lent_words.specs.Words.{wordsAt, withWord, withWords, storeEach};
+ghost use Rattle.lent_words.specs.Words.{wordsAt, withWord, withWords, storeEach, Leaves};
 ghost use Rattle.lent_cores.specs.Layout.{heldCore, withCore};
-ghost use Rattle.hvc_response.specs.Response.{response, withFirst};
-ghost use Rattle.forwarded_call.specs.ForwardedCall.{resumed, completeCall};
-ghost use Rattle.lent_reply.specs.LentReply.{resumedElr, replyIn, repliedOne, repliedAny};
+ghost use Rattle.hvc_response.specs.Response.{replyLength, response, withFirst};
+ghost use Rattle.forwarded_call.specs.ForwardedCall.{resumed};
+ghost use Rattle.lent_reply.specs.LentReply.{replyCall};
+use core_answers::CoreError;
 use exceptions::Conduit;
 use exceptions::Wait;
-use forwarded_call::ReplyAnswer;
+use forwarded_call::ReplyDecision;
 use hvc_response::HvcResult;
-use hvc_response::HvcResultKind;
 use hvc_response::NOT_SUPPORTED;
+use hvc_response::REPLY_VALUES;
+use lent_cores::CORE_WORDS;
 use lent_cores::CORES_SIZE;
+use lent_cores::ELR_WORD;
 use lent_cores::VALUES_SIZE;
+use lent_cores::WAIT_CODES;
+use lent_cores::WAIT_WORD;
 
 // The values of a reply from one on, and zeros past the last.
-fn get_values(values: &[u8; VALUES_SIZE], from: usize) -> [u64; 18]
-    requires { ⌜ from ≤ 18 ⌝ }
-    ensures { λ r. ⌜ r ≡ wordsAt (now (values .entry)) from 18 ⌝ }
+fn get_values(values: &[u8; VALUES_SIZE], from: usize) -> [u64; REPLY_VALUES]
+    requires { ⌜ from ≤ replyLength ⌝ }
+    ensures { λ r. ⌜ r ≡ wordsAt (now (values .entry)) from replyLength ⌝ }
 {
-    let mut out = [0u64; 18];
+    let mut out = [0u64; REPLY_VALUES];
     let mut i: usize = 0;
-    while i < 18 {
+    while i < REPLY_VALUES {
         out[i] = lent_words::get_word(values, from + i);
         i += 1;
     }
@@ -39,9 +45,9 @@ fn put_values(
     from: usize,
     count: usize,
 )
-    requires { ⌜ (at ≤ 266) × (from ≤ 18) × (count ≤ 18) ⌝ }
+    requires { ⌜ (at ≤ 266) × (from ≤ replyLength) × (count ≤ replyLength) ⌝ }
     ensures { λ _. ⌜ now (cores .exit)
-        ≡ storeEach (λ b j w. withWord b (at + (from + j)) w) (now (cores .entry)) 0 (take count (wordsAt (now (values .entry)) from 18)) ⌝ }
+        ≡ storeEach (λ b j w. withWord b (at + (from + j)) w) (now (cores .entry)) 0 (take count (wordsAt (now (values .entry)) from replyLength)) ⌝ }
 {
     let read = get_values(values, from);
     let mut i: usize = 0;
@@ -60,7 +66,7 @@ fn modify_register_state(
     values: &[u8; VALUES_SIZE],
 )
     requires { ⌜ at ≤ 266 ⌝ }
-    ensures { λ _. ⌜ now (cores .exit) ≡ withWords (now (cores .entry)) at (response result (wordsAt (now (values .entry)) 0 18)) ⌝ }
+    ensures { λ _. ⌜ now (cores .exit) ≡ withWords (now (cores .entry)) at (response result (wordsAt (now (values .entry)) 0 replyLength)) ⌝ }
 {
     match result {
         HvcResult::Unhandled => {
@@ -85,19 +91,6 @@ fn modify_register_state(
     }
 }
 
-// Of an instruction, in bytes.
-const INSTRUCTION_LENGTH: u64 = 4;
-
-// Where a core goes on: past an SMC, to which ELR still points, and from an HVC's ELR, which points past it.
-fn resumed_elr(conduit: Conduit, elr: u64) -> u64
-    ensures { λ r. ⌜ r ≡ resumedElr conduit elr ⌝ }
-{
-    match conduit {
-        Conduit::Hvc => elr,
-        Conduit::Smc => std::num::wrapping_add_u64(elr, INSTRUCTION_LENGTH),
-    }
-}
-
 // Stores what a reply writes: its registers, ELR, and that the core waits no more.
 fn put_reply(
     cores: &mut [u8; CORES_SIZE],
@@ -108,44 +101,18 @@ fn put_reply(
 )
     requires { ⌜ core < 8 ⌝ }
     ensures { λ _. ⌜ now (cores .exit)
-        ≡ withCore (now (cores .entry)) core (resumed conduit (withFirst (heldCore (now (cores .entry)) core) (response result (wordsAt (now (values .entry)) 0 18)))) ⌝ }
+        ≡ withCore (now (cores .entry)) core (resumed conduit (withFirst (heldCore (now (cores .entry)) core) (response result (wordsAt (now (values .entry)) 0 replyLength)))) ⌝ }
 {
     lent_words::are_bytes(cores);
-    let at = 38 * core as usize;
-    let elr = resumed_elr(conduit, lent_core::get_elr(cores, core));
-    let code = lent_words::kept_code(lent_words::get_word(cores, at + 37), 5, 0);
+    let at = CORE_WORDS * core as usize;
+    let elr = forwarded_call::resumed_elr(conduit, lent_core::get_elr(cores, core));
+    let code = lent_words::kept_code(lent_words::get_word(cores, at + WAIT_WORD), WAIT_CODES, 0);
     modify_register_state(cores, at, result, values);
-    lent_words::put_word(cores, at + 31, elr);
-    lent_words::put_word(cores, at + 37, code);
-}
-
-// A reply that the core's recipient may give, by its kind.
-fn complete_call(
-    cores: &mut [u8; CORES_SIZE],
-    core: u64,
-    conduit: Conduit,
-    kind: u64,
-    values: &[u8; VALUES_SIZE],
-    error: i32,
-) -> u64
-    requires { ⌜ core < 8 ⌝ }
-    ensures { λ r.
-        let replied = completeCall conduit (heldCore (now (cores .entry)) core) (replyIn kind (now (values .entry)) error) in
-        ⌜ (r ≡ repliedOne (now (cores .entry)) core replied .number)
-        × (now (cores .exit) ≡ repliedOne (now (cores .entry)) core replied .state) ⌝ }
-{
-    match HvcResult::from_kind(kind, lent_words::get_word(values, 0), error) {
-        HvcResultKind::Result(result) => {
-            put_reply(cores, core, conduit, result, values);
-            ReplyAnswer::Accepted.number()
-        }
-        HvcResultKind::UnknownKind => ReplyAnswer::UnknownReplyKind.number(),
-    }
+    lent_words::put_word(cores, at + ELR_WORD, elr);
+    lent_words::put_word(cores, at + WAIT_WORD, code);
 }
 
 const LAST_CORE: u64 = 7;
-
-const NO_SUCH_CORE: u64 = 10;
 
 // Gives a core the answer that it waits for: refusals 10, 14, 15.
 pub fn reply(
@@ -155,21 +122,17 @@ pub fn reply(
     values: &[u8; VALUES_SIZE],
     error: i32,
 ) -> u64
-    ensures { λ r.
-        let left = repliedAny (now (cores .entry)) core (replyIn kind (now (values .entry)) error) in
-        ⌜ (r ≡ left .number) × (now (cores .exit) ≡ left .state) ⌝ }
+    ensures { λ r. ⌜ Leaves (replyCall (now (cores .entry)) core kind (now (values .entry)) error) r (now (cores .exit)) [] ⌝ }
 {
     if LAST_CORE < core {
-        return NO_SUCH_CORE;
+        return CoreError::NoSuchCore.number();
     }
-    match lent_core::get_wait(cores, core) {
-        Wait::Nothing => ReplyAnswer::NothingWaiting.number(),
-        Wait::Call(conduit, recipient) => {
-            if forwarded_call::may_reply(recipient, kind) {
-                complete_call(cores, core, conduit, kind, values, error)
-            } else {
-                ReplyAnswer::UnknownReplyKind.number()
-            }
+    let wait = lent_core::get_wait(cores, core);
+    match forwarded_call::decide_reply(wait, kind, lent_words::get_word(values, 0), error) {
+        ReplyDecision::Taken(result, conduit) => {
+            put_reply(cores, core, conduit, result, values);
+            0
         }
+        ReplyDecision::Refused(refusal) => refusal.number(),
     }
 }

@@ -15,30 +15,34 @@ use Rattle.stage2_range.specs.Ranges.{resultNumber}
 use Rattle.stage2.specs.declared.Policy.{Policy}
 use Rattle.stage2.specs.Policy.{allowRange, handleRange}
 use Rattle.exceptions.specs.declared.Core.{Core}
-use Rattle.exceptions.specs.Registers.{writeGpr, writeNumber}
+use Rattle.exceptions.specs.Registers.{writeGpr, writeNumber, coreOf}
 use Rattle.data_abort.specs.declared.TrapRegisters.{TrapRegisters}
 use Rattle.forwarded_call.specs.ForwardedCall.{replyCore}
 use Rattle.hypervisor.specs.declared.CoresStep.{CoresStep}
-use Rattle.hypervisor.specs.Answers.{coreNumber, trapNumber}
-use Rattle.hypervisor.specs.Cores.{noCore, freshCores, saveCore, saveOn, replyStep, replyOn, trapOn}
+use Rattle.core_answers.specs.Answers.{coreNumber, trapNumber}
+use Rattle.hypervisor.specs.Cores.{freshCores, saveCore, saveOn, replyOn, trapOn}
 use Rattle.hypervisor.proofs.Steps.{trap-policy}
 use Rattle.simple_map.specs.declared.SimpleMap.{SimpleMap}
 use Rattle.simple_map.specs.Map.{insertItem, insertNumber, removeItem}
 use Rattle.lent_policy.specs.Layout.{policyAt, withAllowed, withRegions}
 use Rattle.lent_policy.proofs.States.{fresh-policy, allowed-lent, regions-lent}
-use Rattle.lent_cores.specs.Layout.{coresAt, counterAt, withCore, withCounter}
+use Rattle.lent_cores.specs.Layout.{coresAt, counterAt, withCore, withCounter, counterWord, coresSize, elrWord, spsrWord}
 use Rattle.lent_cores.proofs.Records.{core-lent, counter-lent}
 use Rattle.lent_cores.proofs.States.{fresh-cores, fresh-counter}
-use Rattle.lent_map.specs.Layout.{mapAt, withPlaces}
+use Rattle.lent_map.specs.Layout.{mapAt, withPlaces, mapSize}
 use Rattle.lent_map.proofs.States.{fresh-map, places-lent}
-use Rattle.ritm.specs.Interface.{unlessRefused, onEight, allowCall, handleCall, steppedCore, saveCall, trapCall, replyCall, writeCall, insertCall, getCall, removeCall}
-use Rattle.order_independence.specs.Calls.{State, freshState, answerNumber, call, callAll}
+use Rattle.ritm.specs.Interface.{unlessRefused, allowCall, handleCall, saveCall, trapCall, replyCall, writeCall, insertCall, getCall, removeCall}
+use Rattle.order_independence.specs.Calls.{State, freshState, answerNumber, answerValues, call, callAll}
 use Rattle.order_independence.proofs.Calls.{refusal-keeps}
-use Rattle.lent_states.specs.LentStates.{Buffers, stateIn, Entry, ritm-allow-range, ritm-handle-range, ritm-save, ritm-trap, ritm-reply, ritm-write-gpr, ritm-insert, ritm-get, ritm-remove, left, withPolicyBytes, withCoreBytes, withMapBytes, afterCall, afterAll, hostCall, resultWords, Typed, AllTyped, Sized}
+use Rattle.lent_states.specs.LentStates.{Buffers, stateIn, Entry, ritm-allow-range, ritm-handle-range, ritm-save, ritm-trap, ritm-reply, ritm-write-gpr, ritm-insert, ritm-get, ritm-remove, left, withPolicyBytes, withCoreBytes, withMapBytes, afterCall, afterAll, hostCall, Typed, AllTyped, Sized}
 use Rattle.lent_states.proofs.Policies.{allow-held, handle-held}
 use Rattle.lent_states.proofs.Maps.{insert-held, remove-held}
-use Rattle.lent_states.proofs.CoreSteps.{saved, replied-core}
+use Rattle.hypervisor.proofs.InWords.{in-saved}
+use Rattle.forwarded_call.proofs.Laws.{in-replied}
 use Rattle.lent_states.proofs.Cores.{Holds, stepped, written-held, trap-held}
+use Rattle.lent_reply.specs.LentReply.{replyIn}
+use Rattle.hvc_response.specs.Response.{replyLength}
+use Rattle.lent_core.specs.Calls.{onEight, steppedCore}
 
 -- the words of bytes fit
 words-fit : (b : List ℕ) (n : ℕ) → Bytes b → Every FitsWord (wordsAt b 0 n)
@@ -47,7 +51,7 @@ words-fit b n h = every-each FitsWord (λ j. wordAt b (0 + j)) (λ j. word-fits 
 -- so does the counter
 counter-fits : (b : List ℕ) → Bytes b → FitsWord (counterAt b)
 unfolding counterAt
-counter-fits b h = word-fits b 304 h
+counter-fits b h = word-fits b counterWord h
 
 module _ (b : Buffers) (sized : Sized b) where
   -- the state where one buffer holds something else
@@ -76,11 +80,11 @@ module _ (b : Buffers) (sized : Sized b) where
       policy-held _ _ (handle-held (b .policy) base size read write (sized .policy) (t .0) (t .1))
   held-state (ritm-save core registers) t =
       let x = wordsAt registers 0 31 in
-      let elr = wordAt registers 31 in
-      let spsr = wordAt registers 32 in
+      let elr = wordAt registers elrWord in
+      let spsr = wordAt registers spsrWord in
       cores-held _ _ _
       (stepped (b .cores) core (sized .cores) (λ c. saveCore c x elr spsr)
-      (λ c h. saved c h x elr spsr (length-each (λ j. wordAt registers (0 + j)) 0 31) (words-fit registers 31 t) (word-fits registers 31 t) (word-fits registers 32 t))
+      (λ c h. in-saved c h x elr spsr (length-each (λ j. wordAt registers (0 + j)) 0 31) (words-fit registers 31 t) (word-fits registers elrWord t) (word-fits registers spsrWord t))
       (λ h. ap (λ (s : State). s .cores) (kept (ritm-save core registers) h)))
   held-state (ritm-trap core registers) t =
       let p = policyAt (b .policy) in
@@ -92,8 +96,8 @@ module _ (b : Buffers) (sized : Sized b) where
       ∙ ap (λ (q : Policy). record { policy = q; cores = done .cores; counter = done .counter; map = mapAt (b .map) }) (sym (trap-policy p (coresAt c) (counterAt c) core registers))
   held-state (ritm-reply core kind values error) t =
       cores-held _ _ _
-      (stepped (b .cores) core (sized .cores) (λ c. replyStep (replyCore c (record { kind = kind; values = wordsAt values 0 18; error = error })))
-      (λ c h. replied-core c h (record { kind = kind; values = wordsAt values 0 18; error = error }) (words-fit values 18 (t .0)) (t .1))
+      (stepped (b .cores) core (sized .cores) (λ c. replyCore c (replyIn kind values error))
+      (λ c h. in-replied c h (replyIn kind values error) (words-fit values replyLength (t .0)) (t .1))
       (λ h. ap (λ (s : State). s .cores) (kept (ritm-reply core kind values error) h)))
   held-state (ritm-write-gpr core index value) t =
       cores-held _ _ _
@@ -117,7 +121,7 @@ same-number b (ritm-get key) t = refl
 same-number b (ritm-remove key) t = refl
 
 -- Its result holds the result fields of the host's answer.
-pub same-result : (b : Buffers) (e : Entry) → left b e .result ≡ bytesOf (resultWords (call (stateIn b) (hostCall e) .answer))
+pub same-result : (b : Buffers) (e : Entry) → left b e .result ≡ bytesOf (answerValues (call (stateIn b) (hostCall e) .answer))
 unfolding allowCall handleCall saveCall replyCall steppedCore trapCall writeCall insertCall getCall removeCall
 same-result b (ritm-allow-range base size attributes) = refl
 same-result b (ritm-handle-range base size read write) = refl
@@ -133,24 +137,24 @@ same-result b (ritm-remove key) = refl
 left-lent : {n : ℕ} (number : ℕ) (b next : List ℕ) → Lent n b → Lent n next → Lent n (unlessRefused number b next)
 left-lent {n} number b next h k = cond-all (Lent n) (eqb number 0) next b k h
 
-stepped-lent : (b : List ℕ) (i : ℕ) (step : CoresStep) → Lent 2440 b → Lent 2440 (steppedCore b i step .state)
+stepped-lent : (b : List ℕ) (i : ℕ) (step : CoresStep) → Lent coresSize b → Lent coresSize (steppedCore b i step .state)
 unfolding steppedCore
 stepped-lent b i step h =
-    let core = getD (step .cores) i noCore in
+    let core = coreOf (step .cores) i in
     left-lent (coreNumber (step .answer)) b (withCore b i core) h (core-lent b i core h)
 
-written-lent : (b : List ℕ) (i index value : ℕ) → Lent 2440 b → Lent 2440 (writeCall b i index value .state)
+written-lent : (b : List ℕ) (i index value : ℕ) → Lent coresSize b → Lent coresSize (writeCall b i index value .state)
 unfolding writeCall
 written-lent b i index value h =
-    let w = writeGpr (getD (coresAt b) i noCore) index value in
+    let w = writeGpr (coreOf (coresAt b) i) index value in
     left-lent (onEight i (writeNumber (w .answer))) b (withCore b i (w .core)) h (core-lent b i (w .core) h)
 
-trapped-lent : (p b : List ℕ) (i : ℕ) (trap : TrapRegisters) → Lent 2440 b → Lent 2440 (trapCall p b i trap .state)
+trapped-lent : (p b : List ℕ) (i : ℕ) (trap : TrapRegisters) → Lent coresSize b → Lent coresSize (trapCall p b i trap .state)
 unfolding trapCall
 trapped-lent p b i trap h =
     let t = trapOn (policyAt p) (coresAt b) (counterAt b) i trap in
-    let core = getD (t .cores) i noCore in
-    left-lent (trapNumber (t .answer)) b (withCounter (withCore b i core) (t .counter)) h (counter-lent (withCore b i core) (t .counter) (core-lent b i core h))
+    let core = coreOf (t .cores) i in
+    left-lent (trapNumber (t .result .answer)) b (withCounter (withCore b i core) (t .counter)) h (counter-lent (withCore b i core) (t .counter) (core-lent b i core h))
 
 allow-lent : (b : List ℕ) (base size attributes : ℕ) → Lent 1680 b → Lent 1680 (allowCall b base size attributes .state)
 unfolding allowCall
@@ -168,13 +172,13 @@ handle-lent b base size read write h =
     let n = built .policy .«region_count» in
     left-lent (resultNumber (built .answer)) b (withRegions b regions n) h (regions-lent b regions n h)
 
-insert-lent : (b : List ℕ) (key entry context : ℕ) → Lent 256 b → Lent 256 (insertCall b key entry context .state)
+insert-lent : (b : List ℕ) (key entry context : ℕ) → Lent mapSize b → Lent mapSize (insertCall b key entry context .state)
 unfolding insertCall
 insert-lent b key entry context h =
     let inserted = insertItem (mapAt b) key (record { «entry_point» = entry; «context_id» = context }) in
     left-lent (insertNumber (inserted .answer)) b (withPlaces b (inserted .map .items)) h (places-lent b (inserted .map .items) h)
 
-remove-lent : (b : List ℕ) (key : ℕ) → Lent 256 b → Lent 256 (removeCall b key .state)
+remove-lent : (b : List ℕ) (key : ℕ) → Lent mapSize b → Lent mapSize (removeCall b key .state)
 unfolding removeCall
 remove-lent b key h = places-lent b (removeItem (mapAt b) key .map .items) h
 
@@ -204,7 +208,7 @@ held-states b s (e ∷ es) t =
 
 -- zero bytes
 abbrev zeros : Buffers
-zeros = record { policy = replicate 1680 0; cores = replicate 2440 0; map = replicate 256 0 }
+zeros = record { policy = replicate 1680 0; cores = replicate coresSize 0; map = replicate mapSize 0 }
 
 zeros-lent : (n : ℕ) → Lent n (replicate n 0)
 zeros-lent n = record { long = length-replicate n 0; bytes = go n }
@@ -218,5 +222,5 @@ zeros-lent n = record { long = length-replicate n 0; bytes = go n }
 pub from-fresh : (es : List Entry) → AllTyped es → stateIn (afterAll zeros es) ≡ callAll freshState (map hostCall es)
 unfolding freshState freshCores
 from-fresh es t =
-    held-states zeros (record { policy = zeros-lent 1680; cores = zeros-lent 2440; map = zeros-lent 256 }) es t
+    held-states zeros (record { policy = zeros-lent 1680; cores = zeros-lent coresSize; map = zeros-lent mapSize }) es t
     ∙ ap (λ (s : State). callAll s (map hostCall es)) (λ i. record { policy = fresh-policy i; cores = fresh-cores i; counter = fresh-counter i; map = fresh-map i })

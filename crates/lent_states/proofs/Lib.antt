@@ -1,6 +1,5 @@
 -- Calls on lent bytes are the library's calls on what the bytes hold.
 pub mod Policies
 pub mod Maps
-pub mod CoreSteps
 pub mod Cores
 pub mod LentStates

@@ -5,14 +5,13 @@ use mathlib.Core.List.{List, [], _∷_, map}
 use Rattle.lent_words.specs.Words.{wordAt, wordsAt, FitsWord, Bytes, Lent}
 use Rattle.stage2.specs.Builds.{allow, handle}
 use Rattle.data_abort.specs.declared.TrapRegisters.{TrapRegisters}
-use Rattle.simple_map.specs.Map.{lookupValues}
 use Rattle.hvc_response.specs.Response.{signedWord}
-use Rattle.hypervisor.specs.Answers.{trapKind}
 use Rattle.lent_policy.specs.Layout.{policyAt}
-use Rattle.lent_cores.specs.Layout.{coresAt, counterAt}
-use Rattle.lent_map.specs.Layout.{mapAt}
+use Rattle.lent_cores.specs.Layout.{coresAt, counterAt, elrWord, spsrWord, coresSize}
+use Rattle.lent_map.specs.Layout.{mapAt, mapSize}
 use Rattle.ritm.specs.Interface.{Left, allowCall, handleCall, saveCall, trapCall, replyCall, writeCall, insertCall, getCall, removeCall}
-use Rattle.order_independence.specs.Calls.{State, HostCall, build, core-call, save, trap, reply, write-gpr, by-value, insert, get, remove, Answer, built, stepped, trapped, written, inserted, looked-up}
+use Rattle.order_independence.specs.Calls.{State, HostCall, build, core-call, save, trap, reply, write-gpr, by-value, insert, get, remove}
+use Rattle.lent_reply.specs.LentReply.{replyIn}
 
 -- the bytes that a host lends
 pub record Buffers : Type 0 where
@@ -79,22 +78,13 @@ afterAll b (e ∷ es) = afterAll (afterCall b e) es
 abbrev pub hostCall : Entry → HostCall
 hostCall (ritm-allow-range base size attributes) = build (allow base size attributes)
 hostCall (ritm-handle-range base size read write) = build (handle base size read write)
-hostCall (ritm-save core registers) = core-call (save core (wordsAt registers 0 31) (wordAt registers 31) (wordAt registers 32))
+hostCall (ritm-save core registers) = core-call (save core (wordsAt registers 0 31) (wordAt registers elrWord) (wordAt registers spsrWord))
 hostCall (ritm-trap core registers) = core-call (trap core registers)
-hostCall (ritm-reply core kind values error) = core-call (reply core (record { kind = kind; values = wordsAt values 0 18; error = error }))
+hostCall (ritm-reply core kind values error) = core-call (reply core (replyIn kind values error))
 hostCall (ritm-write-gpr core index value) = core-call (write-gpr by-value core index value)
 hostCall (ritm-insert key entry context) = core-call (insert key (record { «entry_point» = entry; «context_id» = context }))
 hostCall (ritm-get key) = core-call (get key)
 hostCall (ritm-remove key) = core-call (remove key)
-
--- the words of its result: a trap's kind and values, what a look-up or a remove found; the other calls have none
-abbrev pub resultWords : Answer → List ℕ
-resultWords (built answer) = []
-resultWords (stepped answer) = []
-resultWords (trapped answer values) = trapKind answer ∷ values
-resultWords (written answer) = []
-resultWords (inserted answer) = []
-resultWords (looked-up answer) = lookupValues answer
 
 -- what C's types say of the arguments: numbers fit 64 bits, bytes are bytes; and `write_gpr` is "on a record of the eight"
 abbrev pub Typed : Entry → Type 0
@@ -111,8 +101,8 @@ Typed (ritm-remove key) = Unit {0}
 -- and of the buffers: their lengths
 pub record Sized (b : Buffers) : Type 0 where
   pub policy : Lent 1680 (b .policy)
-  pub cores : Lent 2440 (b .cores)
-  pub map : Lent 256 (b .map)
+  pub cores : Lent coresSize (b .cores)
+  pub map : Lent mapSize (b .map)
 
 -- the arguments of every call
 abbrev pub AllTyped : List Entry → Type 0

@@ -4,15 +4,15 @@ use Prim.Native.Nat.{ℕ, zero, suc, _+_, _*_, _/_, _%_, _<_, _≤_}
 use mathlib.Core.Path.{_≡_, refl, sym, ap, _∙_}
 use mathlib.Core.Bool.{Bool, true, false}
 use mathlib.Core.Logic.{_⊎_, inl, inr}
-use mathlib.Core.List.{List, [], _∷_, _++_, append-assoc}
+use mathlib.Core.List.{List, [], _∷_, append-assoc}
 use native.Mathlib.Omega.{arith}
 use native.Mathlib.Nat.{add-zero, zero-add}
 use lib.Dec.{leb, ltb}
 use borrow.Author.Tests.{leb-true, leb-false, ltb-true, ltb-false}
 use lib.ListN.{length, set, take, drop, take-append-drop, length-drop}
 use lib.Seq.{sets, sets-eq, set-set, set-comm, drop-drop, getD-drop}
-use Rattle.lent_words.specs.Words.{ofBytes, toBytes, hasWord, wordAt, withWord, each, storeEach, wordsAt, withWords, Bytes}
-use Rattle.lent_words.proofs.Words.{length-to, each-same, word-stored, word-kept, word-read, length-word, word-other}
+use Rattle.lent_words.specs.Words.{ofBytes, toBytes, wordAt, withWord, each, storeEach, wordsAt, withWords, Bytes}
+use Rattle.lent_words.proofs.Words.{length-to, each-same, word-stored, word-kept, word-read, length-word}
 
 -- the bytes of the number of some bytes are those bytes
 to-of : (n : ℕ) (l : List ℕ) → Bytes l → n ≤ length l → toBytes n (ofBytes (take n l)) ≡ take n l

@@ -4,3 +4,4 @@ pub mod RoundTrip
 pub mod Records
 pub mod Every
 pub mod InPlace
+pub mod Left

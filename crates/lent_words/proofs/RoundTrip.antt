@@ -12,11 +12,7 @@ use lib.Seq.{sets, getD-set-other, getD-drop}
 use Rattle.lists.proofs.Laws.{cond-all}
 use Rattle.lent_words.specs.Words.{ofBytes, toBytes, hasWord, wordAt, withWord, each, storeEach, wordsAt, withWords, readCode, keptCode, FitsWord, Bytes, Lent}
 use Rattle.lent_words.proofs.Words.{getD-each, each-same, length-word, word-all, word-same, word-other}
-
--- every element has the property
-abbrev pub Every : {A : Type 0} → (A → Type 0) → List A → Type 0
-Every P [] = Unit {0}
-Every P (x ∷ xs) = P x × Every P xs
+pub use Rattle.lists.proofs.Every.{Every}
 
 -- what each store keeps, all keep
 pub store-stays : {A : Type 0} (put : List ℕ → ℕ → A → List ℕ) (Good : List ℕ → Type 0) → ((c : List ℕ) (j : ℕ) (x : A) → Good c → Good (put c j x))

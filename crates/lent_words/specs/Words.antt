@@ -1,11 +1,12 @@
 -- Little-endian 64-bit words in bytes, numbered from 0. Assumes nothing.
-use Prim.Native.Nat.{ℕ, zero, suc, _+_, _*_, _/_, _%_, _^_, _<_}
+use Prim.Native.Nat.{ℕ, zero, suc, _+_, _*_, _/_, _%_, _<_}
 use mathlib.Core.Path.{_≡_}
 use mathlib.Core.Bool.{Bool, cond}
 use mathlib.Core.List.{List, [], _∷_, _++_}
 use lib.Dec.{eqb, ltb, leb}
 use lib.ListN.{length, getD, take, drop}
 use lib.Seq.{sets}
+pub use Rattle.bits.specs.Bits.{FitsWord}
 
 -- the number of these bytes, the lowest first
 abbrev pub ofBytes : List ℕ → ℕ
@@ -59,10 +60,6 @@ readCode limit word = cond (ltb word limit) word 0
 -- the word to write for a code: a word that reads as the code stays
 unfoldable pub keptCode : ℕ → ℕ → ℕ → ℕ
 keptCode limit word code = cond (eqb (readCode limit word) code) word code
-
--- a number fits a word
-abbrev pub FitsWord : ℕ → Type 0
-FitsWord w = w < 2 ^ 64
 
 -- the elements of a list are bytes
 abbrev pub Bytes : List ℕ → Type 0

@@ -1,53 +1,25 @@
--- Shifts and masks are the arithmetic of the syndrome's fields, at any place and any width. Assumes nothing.
+-- The fields of a syndrome, and sign extension as two's complement, at any width. Assumes nothing.
 use mathlib.Core.Path.{_≡_, refl, ap, ap₂, sym, _∙_}
-use mathlib.Core.Bool.{Bool, true, false, not, cond}
+use mathlib.Core.Bool.{Bool, true, false, cond}
 use mathlib.Core.List.{[], _∷_}
 use Prim.Native.Nat.{ℕ, zero, suc, _+_, _*_, _/_, _%_, _^_, _-_, _<_, _≤_}
 use native.Mathlib.Nat.{zero-mul, one-mul, mod-lt, mod-eq-of-lt, pow-suc}
 use native.Mathlib.Omega.{arith}
-use borrow.Author.Tests.{ne-eqb, le-leb, lt-leb, leb-true, leb-false}
-use lib.Bits.{bitAnd, bitOr, and-mask, and-high, or-shifted}
+use borrow.Author.Tests.{le-leb, lt-leb, leb-true, leb-false}
+use lib.Bits.{bitAnd, bitOr, and-mask, or-shifted}
 use lib.Dec.{eqb, leb, lit<, lit≤}
 use lib.IntN.{pos, negsuc}
 use lib.ListN.{replicate}
-use lib.Pow.{high-ones, pow-pos, pow-mono, mod-pow-add}
-use Rattle.lists.proofs.Laws.{cond-map}
-use Rattle.memory_access.specs.Syndrome.{bitsAt, bitAt, isv, sas, sse, srt, sf, wnr, widthOf, bitsOf, kindOf, faultIpa, decodeAccess, numberOf, kindNumber, flagNumber, valuesOf}
-use Rattle.memory_access.specs.Transfer.{lowBits, signExtend, twosComplement}
+use lib.Pow.{pow-pos, pow-mono, mod-pow-add}
+use Rattle.lists.proofs.Laws.{cond-map, cond-all}
+use Rattle.bits.specs.Bits.{bitsAt, bitAt, lowBits, FitsWord}
+use Rattle.bits.proofs.Laws.{low-fits}
+use Rattle.memory_access.specs.Syndrome.{isv, sas, sse, srt, sf, wnr, widthOf, bitsOf, kindOf, faultIpa, decodeAccess, numberOf, kindNumber, flagNumber, valuesOf}
+use Rattle.memory_access.specs.Transfer.{signExtend, twosComplement, loaded, atRegisterWidth, extendReadResult}
 use Rattle.memory_access.specs.declared.Fipa.{Fipa}
 use Rattle.memory_access.specs.declared.MemoryAccessWidth.{MemoryAccessWidth}
 use Rattle.memory_access.specs.declared.MemoryAccessWidth.the-variants.{U8, U16, U32, U64}
-
--- `(x >> k) & (2^n - 1)`
-pub field : (x k n : ℕ) → bitAnd (x / 2 ^ k) (2 ^ n - 1) ≡ bitsAt x k n
-unfolding bitsAt
-field x k n = and-mask (x / 2 ^ k) n
-
--- a field of `n` bits is below 2 ^ n
-pub field-fits : (x k n : ℕ) → bitsAt x k n < 2 ^ n
-unfolding bitsAt
-field-fits x k n = mod-lt (x / 2 ^ k) (pow-pos n)
-
--- `x & (2^w - 1)`
-pub low : (x w : ℕ) → bitAnd x (2 ^ w - 1) ≡ lowBits w x
-unfolding lowBits
-low x w = and-mask x w
-
-flag : (b m : ℕ) → b < 2 → 0 < m → not (eqb (b * m) 0) ≡ eqb b 1
-flag zero m h p = ap (λ (n : ℕ). not (eqb n 0)) (zero-mul m)
-flag (suc zero) m h p =
-    ap (λ (n : ℕ). not (eqb n 0)) (one-mul m) ∙ ap not (ne-eqb m 0 (λ e. omega arith))
-flag (suc (suc b)) m h p = absurd (omega arith)
-
-one-bit : (x k : ℕ) → bitAnd x (2 ^ k) ≡ (x / 2 ^ k % 2) * 2 ^ k
-one-bit x k = ap (bitAnd x) (sym (high-ones 1 k ∙ one-mul (2 ^ k))) ∙ and-high x 1 k
-
--- `(x & (1 << k)) != 0`
-pub bit-test : (x k : ℕ) → not (eqb (bitAnd x (2 ^ k)) 0) ≡ bitAt x k
-unfolding bitAt bitsAt
-bit-test x k =
-    ap (λ (n : ℕ). not (eqb n 0)) (one-bit x k)
-    ∙ flag (x / 2 ^ k % 2) (2 ^ k) (mod-lt (x / 2 ^ k) (lit< tt)) (pow-pos k)
+use Rattle.memory_access.specs.declared.MemoryAccess.{MemoryAccess}
 
 -- an access size that is none of 0, 1 and 2
 pub widest : (n : ℕ) → (n ≡ 0 → ⊥) → (n ≡ 1 → ⊥) → (n ≡ 2 → ⊥) → U64 ≡ widthOf n
@@ -97,16 +69,15 @@ complement w n l h = rw (top-bit w n l, mod-eq-of-lt h)
 
 -- Sign extension of the low `w` bits of `v`, by their mask.
 module _ (w v : ℕ) (range : (1 ≤ w) × (w ≤ 64)) where
-  low-fits : lowBits w v < 2 ^ w
-  unfolding lowBits
-  low-fits = mod-lt v (pow-pos w)
+  fits : lowBits w v < 2 ^ w
+  fits = low-fits w v
 
   pub sign-clear : lowBits w v ≤ (2 ^ w - 1) / 2 → lowBits w v ≡ signExtend w v
   unfolding signExtend
   sign-clear h = rw (top-bit w v (range .0), lt-leb (2 ^ (w - 1)) (lowBits w v) (omega (arith, twice w (range .0), pow-pos (w - 1))))
 
   pub sign-fits : lowBits w v + (2 ^ 64 - 1 - (2 ^ w - 1)) < 2 ^ 64
-  sign-fits = omega (arith, pow-mono {i = w} {j = 64} (range .1), low-fits)
+  sign-fits = omega (arith, pow-mono {i = w} {j = 64} (range .1), fits)
 
   pub sign-set : (2 ^ w - 1) / 2 < lowBits w v → lowBits w v + (2 ^ 64 - 1 - (2 ^ w - 1)) ≡ signExtend w v
   unfolding signExtend
@@ -116,7 +87,7 @@ module _ (w v : ℕ) (range : (1 ≤ w) × (w ≤ 64)) where
 
   -- the extended bits are the same two's complement number
   pub sign-kept : twosComplement 64 (signExtend w v) ≡ twosComplement w (lowBits w v)
-  sign-kept = rw (complement w (lowBits w v) (range .0) low-fits) (go (leb (2 ^ (w - 1)) (lowBits w v)) refl)
+  sign-kept = rw (complement w (lowBits w v) (range .0) fits) (go (leb (2 ^ (w - 1)) (lowBits w v)) refl)
     where
       small : 2 ^ (w - 1) ≤ 2 ^ 63
       small = pow-mono {i = w - 1} {j = 63} (omega arith)
@@ -130,8 +101,8 @@ module _ (w v : ℕ) (range : (1 ≤ w) × (w ≤ 64)) where
           let h : 2 ^ (w - 1) ≤ lowBits w v = leb-true (2 ^ (w - 1)) (lowBits w v) e in
           let d = twice w (range .0) in
           let p = pow-pos (w - 1) in
-          let m : 2 ^ 64 - suc word ≡ 2 ^ w - suc (lowBits w v) = omega (arith, low-fits, small) in
-          rw (← sign-set (omega arith), complement 64 word (lit≤ tt) sign-fits, le-leb (2 ^ 63) word (omega (arith, low-fits, small)), m)
+          let m : 2 ^ 64 - suc word ≡ 2 ^ w - suc (lowBits w v) = omega (arith, fits, small) in
+          rw (← sign-set (omega arith), complement 64 word (lit≤ tt) sign-fits, le-leb (2 ^ 63) word (omega (arith, fits, small)), m)
       go false e =
           let h : lowBits w v < 2 ^ (w - 1) = leb-false (2 ^ (w - 1)) (lowBits w v) e in
           let d = twice w (range .0) in
@@ -168,3 +139,14 @@ pub decode-values : (iss : ℕ) (fipa : Fipa) (far : ℕ)
     (replicate 6 0)
 unfolding decodeAccess
 decode-values iss fipa far = cond-map valuesOf (isv iss) _ _
+
+-- what a load puts into its register fits a word
+pub extended-fits : (a : MemoryAccess) (v : ℕ) → FitsWord (extendReadResult a v)
+unfolding extendReadResult atRegisterWidth loaded signExtend
+extended-fits a v =
+    let w = bitsOf (a .width) in
+    let low : (n x : ℕ) → n ≤ 64 → FitsWord (lowBits n x) = λ n x h. omega (arith, low-fits n x, pow-mono {i = n} {j = 64} h) in
+    let narrow = low w v (bits-range (a .width) .1) in
+    let extended : ℕ = (lowBits w v + (2 ^ 64 - 2 ^ w)) % 2 ^ 64 in
+    let whole = cond-all FitsWord (a .«sign_extend») _ _ (cond-all FitsWord (bitAt v (w - 1)) extended (lowBits w v) (omega arith) narrow) narrow in
+    cond-all FitsWord (a .«register_width_64») _ _ whole (low 32 _ (lit≤ tt))

@@ -2,9 +2,9 @@
 -- Arm DDI 0601, ESR_EL2, "ISS encoding for an exception from a Data Abort". Assumes nothing.
 use mathlib.Core.Bool.{Bool, true, false, cond}
 use mathlib.Core.List.{List, [], _∷_}
-use Prim.Native.Nat.{ℕ, _+_, _*_, _/_, _%_, _^_}
-use lib.Dec.{eqb}
+use Prim.Native.Nat.{ℕ, _+_, _*_, _%_, _^_}
 use lib.ListN.{getD, replicate}
+use Rattle.bits.specs.Bits.{bitsAt, bitAt}
 use Rattle.memory_access.specs.declared.Fipa.{Fipa}
 use Rattle.memory_access.specs.declared.Ipa.{Ipa}
 use Rattle.memory_access.specs.declared.MemoryAccessWidth.{MemoryAccessWidth}
@@ -14,14 +14,6 @@ use Rattle.memory_access.specs.declared.MemoryAccessKind.the-variants.{R
 use Rattle.memory_access.specs.declared.MemoryAccess.{MemoryAccess}
 use Rattle.memory_access.specs.declared.Decoded.{Decoded}
 use Rattle.memory_access.specs.declared.Decoded.the-variants.{Access, NoSyndrome}
-
--- the `n` bits of `x` from bit `k` on
-unfoldable pub bitsAt : ℕ → ℕ → ℕ → ℕ
-bitsAt x k n = x / 2 ^ k % 2 ^ n
-
--- bit `k` of `x` is set
-unfoldable pub bitAt : ℕ → ℕ → Bool
-bitAt x k = eqb (bitsAt x k 1) 1
 
 -- "ISV is bit 24": the syndrome is valid
 abbrev pub isv : ℕ → Bool

@@ -2,14 +2,11 @@
 use mathlib.Core.Bool.{Bool, cond}
 use Prim.Native.Nat.{ℕ, suc, _+_, _-_, _%_, _^_}
 use lib.IntN.{ℤ, pos, negsuc}
+use Rattle.bits.specs.Bits.{bitAt, lowBits}
 use Rattle.memory_access.specs.declared.MemoryAccess.{MemoryAccess}
 use Rattle.memory_access.specs.declared.Decoded.{Decoded}
 use Rattle.memory_access.specs.declared.Decoded.the-variants.{Access, NoSyndrome}
-use Rattle.memory_access.specs.Syndrome.{bitAt, bitsOf}
-
--- the low `w` bits of `v`
-unfoldable pub lowBits : ℕ → ℕ → ℕ
-lowBits w v = v % 2 ^ w
+use Rattle.memory_access.specs.Syndrome.{bitsOf}
 
 -- "those bits are read as a two's complement number and extended to 64": the low `w` bits, less 2^w where bit w - 1 is set, modulo 2^64
 unfoldable pub signExtend : ℕ → ℕ → ℕ

@@ -3,7 +3,8 @@ ghost use mathlib.Core.Path.{_≡_};
 ghost use Prim.Native.Nat.{_-_, _^_};
 ghost use Rattle.memory_access.specs.Syndrome.{isv, sas, sse, srt, sf, wnr, kindOf, widthOf, bitsOf, faultIpa, decodeAccess, kindNumber, flagNumber, numberOf, valuesOf};
 ghost use Rattle.memory_access.specs.declared.Decoded.the-variants.{Access};
-ghost use Rattle.memory_access.specs.Transfer.{lowBits, signExtend, loaded, atRegisterWidth, extendReadResult, storeValue};
+ghost use Rattle.bits.specs.Bits.{lowBits};
+ghost use Rattle.memory_access.specs.Transfer.{signExtend, loaded, atRegisterWidth, extendReadResult, storeValue};
 
 // The faulting page number, as HPFAR_EL2 reports it: it counts pages.
 pub struct Fipa(pub u64);

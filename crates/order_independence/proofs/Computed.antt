@@ -5,8 +5,8 @@ use mathlib.Core.Path.{_≡_, refl}
 use mathlib.Core.List.{List, [], _∷_}
 use lib.ListN.{replicate}
 use Rattle.lists.specs.Lists.{held}
-use Rattle.memory_access.specs.Syndrome.{bitsAt, bitAt, faultIpa, decodeAccess}
-use Rattle.memory_access.specs.Transfer.{lowBits, signExtend, loaded, atRegisterWidth, extendReadResult}
+use Rattle.memory_access.specs.Syndrome.{faultIpa, decodeAccess}
+use Rattle.memory_access.specs.Transfer.{signExtend, loaded, atRegisterWidth, extendReadResult}
 use Rattle.stage2_range.specs.Ranges.{validateRange, sharesByte, overlapsAllowed}
 use Rattle.stage2_range.specs.Registry.{overlapsRegions, findRegion, insertRegion, registerAnswer}
 use Rattle.stage2.specs.Policy.{freshPolicy, handleAnswerFor, addRegion, handleRange}
@@ -15,14 +15,14 @@ use Rattle.simple_map.specs.Map.{isFree, holdsKey, valueOf, emptyMap, without, 
 use Rattle.exceptions.specs.Registers.{freshCore, withRegisters, advancePc, writeGpr}
 use Rattle.qemu.specs.FilteredMmio.{pageWord, loadsCounter, counterAfter, readFilteredMmio}
 use Rattle.data_abort.specs.declared.TrapRegisters.{TrapRegisters}
-use Rattle.data_abort.specs.DataAbort.{injectionDue, withEc, injected, injectDataAbort, handleDataAbort}
+use Rattle.data_abort.specs.DataAbort.{injectionDue, injected, injectDataAbort, handleDataAbort}
 use Rattle.forwarded_call.specs.ForwardedCall.{recipientOf, withWait, forwardCall}
-use Rattle.hypervisor.specs.Answers.{answered}
 use Rattle.hypervisor.specs.Trap.{exceptionClass, byClass, handleSyncLower}
-use Rattle.hypervisor.specs.Cores.{noCore, freshCores, saveCore, onCore, saveOn, trapOn}
+use Rattle.hypervisor.specs.Cores.{freshCores, saveCore, onCore, saveOn, trapOn}
 use Rattle.order_independence.specs.Calls.{freshState, lent, CoreCall, save, trap, write-gpr, insert, get, remove, Answer, afterSteps, answersTo}
 use Rattle.order_independence.specs.Steps.{isOwn}
 use Rattle.order_independence.proofs.Needed.{page, load}
+use Rattle.bits.specs.Bits.{bitAt, bitsAt, lowBits, withBits}
 
 -- a load of 32 bits at 16, which faults; a call by HVC
 abbrev narrow : TrapRegisters
@@ -82,6 +82,6 @@ unfolding
     held bitsAt bitAt faultIpa decodeAccess lowBits signExtend loaded atRegisterWidth extendReadResult validateRange sharesByte
     overlapsAllowed overlapsRegions findRegion insertRegion registerAnswer freshPolicy handleAnswerFor addRegion handleRange
     isFree holdsKey valueOf emptyMap without getItem hasRoom removeItem insertItem freshState freshCore withRegisters advancePc writeGpr pageWord
-    loadsCounter counterAfter readFilteredMmio injectionDue withEc injected injectDataAbort handleDataAbort
-    recipientOf withWait forwardCall answered exceptionClass byClass handleSyncLower noCore freshCores saveCore onCore saveOn trapOn
+    loadsCounter counterAfter readFilteredMmio injectionDue withBits injected injectDataAbort handleDataAbort
+    recipientOf withWait forwardCall exceptionClass byClass handleSyncLower freshCores saveCore onCore saveOn trapOn
 computed = (refl, refl, refl, refl, refl, refl, refl)

@@ -7,7 +7,6 @@ use mathlib.Core.Logic.{_⊎_, inl, inr}
 use native.Mathlib.Omega.{arith}
 use borrow.Author.Tests.{ltb-false, eqb-true, eqb-false, eq-eqb}
 use lib.Dec.{ltb}
-use lib.ListN.{getD}
 use lib.Seq.{getD-set-same, getD-set-other}
 use Rattle.stage2_range.specs.declared.MemoryAccessRegion.{MemoryAccessRegion}
 use Rattle.stage2.specs.Policy.{regionsHeld}
@@ -18,15 +17,15 @@ use Rattle.simple_map.specs.Map.{getItem, removeItem}
 use Rattle.simple_map.specs.Keys.{KeysDiffer, HoldsKeys}
 use Rattle.simple_map.proofs.Keys.{get-removed-other, get-inserted-other, remove-holds, get-removed, insert-accepted, insert-holds, get-inserted}
 use Rattle.exceptions.specs.declared.Core.{Core}
-use Rattle.exceptions.specs.Registers.{writeGpr}
+use Rattle.exceptions.specs.Registers.{writeGpr, coreOf, freshCore}
 use Rattle.forwarded_call.specs.ForwardedCall.{replyCore}
 use Rattle.data_abort.specs.declared.TrapRegisters.{TrapRegisters}
-use Rattle.hypervisor.specs.declared.CoreStep.{CoreStep}
-use Rattle.hypervisor.specs.declared.TrapStep.{TrapStep}
+use Rattle.core_answers.specs.declared.CoreStep.{CoreStep}
+use Rattle.core_answers.specs.declared.TrapStep.{TrapStep}
 use Rattle.hypervisor.specs.Trap.{handleSyncLower}
-use Rattle.hypervisor.specs.Cores.{noCore, saveCore, replyStep, onCore, saveOn, replyOn, trapOn}
+use Rattle.hypervisor.specs.Cores.{saveCore, onCore, saveOn, replyOn, trapOn}
 use Rattle.hypervisor.proofs.Steps.{trap-step, trap-others, trap-policy, core-step, core-others}
-use Rattle.order_independence.proofs.CounterWord.{StepLoads, step-loads, step-steady}
+use Rattle.hypervisor.proofs.Counter.{StepLoads, step-loads, step-steady}
 use Rattle.order_independence.specs.Calls.{State, CoreCall, save, trap, reply, write-gpr, insert, get, remove, core-call, Answer, stepped, trapped, written, inserted, looked-up, coreCall}
 use Rattle.order_independence.specs.Steps.{isOwn, Named}
 use Rattle.order_independence.specs.OrderIndependence.{Sound}
@@ -80,9 +79,9 @@ module _ (key : ℕ → ℕ) (regions : List MemoryAccessRegion) where
       record { answer = stepped (r .answer); part = record { core = r .core; entry = l .entry }; counter = counter }
   act (trap core registers) l counter =
       let t = handleSyncLower regions (l .core) counter registers in
-      record { answer = trapped (t .answer) (t .values); part = record { core = t .core; entry = l .entry }; counter = t .counter }
+      record { answer = trapped (t .result); part = record { core = t .core; entry = l .entry }; counter = t .counter }
   act (reply core result) l counter =
-      let r = replyStep (replyCore (l .core) result) in
+      let r = replyCore (l .core) result in
       record { answer = stepped (r .answer); part = record { core = r .core; entry = l .entry }; counter = counter }
   act (write-gpr form core index value) l counter =
       let w = writeGpr (l .core) index value in
@@ -102,7 +101,7 @@ module _ (key : ℕ → ℕ) (regions : List MemoryAccessRegion) where
     answer = λ s c. coreCall s c .answer;
     next = λ s c. coreCall s c .state;
     own = isOwn key;
-    part = λ i s. record { core = getD (s .cores) i noCore; entry = getItem (s .map) (key i) };
+    part = λ i s. record { core = coreOf (s .cores) i; entry = getItem (s .map) (key i) };
     counter = λ s. s .counter;
     act = act;
     Sound = λ s. Sound key s × (regionsHeld (s .policy) ≡ regions);
@@ -119,10 +118,10 @@ module _ (key : ℕ → ℕ) (differ : KeysDiffer key) (regions : List MemoryAcc
       → _≡_ {A = Acted Part Answer}
       (record {
         answer = stepped (onCore (s .cores) i step .answer);
-        part = record { core = getD (onCore (s .cores) i step .cores) i noCore; entry = getItem (s .map) (key i) };
+        part = record { core = coreOf (onCore (s .cores) i step .cores) i; entry = getItem (s .map) (key i) };
         counter = s .counter;
       })
-      (let r = step (getD (s .cores) i noCore) in
+      (let r = step (coreOf (s .cores) i) in
       record { answer = stepped (r .answer); part = record { core = r .core; entry = getItem (s .map) (key i) }; counter = s .counter })
   core-local s i step h sound =
       ap
@@ -134,21 +133,21 @@ module _ (key : ℕ → ℕ) (differ : KeysDiffer key) (regions : List MemoryAcc
       → let t = trapOn (s .policy) (s .cores) (s .counter) i registers in
       _≡_ {A = Acted Part Answer}
       (record {
-        answer = trapped (t .answer) (t .values);
-        part = record { core = getD (t .cores) i noCore; entry = getItem (s .map) (key i) };
+        answer = trapped (t .result);
+        part = record { core = coreOf (t .cores) i; entry = getItem (s .map) (key i) };
         counter = t .counter;
       })
-      (M .act (trap i registers) (record { core = getD (s .cores) i noCore; entry = getItem (s .map) (key i) }) (s .counter))
+      (M .act (trap i registers) (record { core = coreOf (s .cores) i; entry = getItem (s .map) (key i) }) (s .counter))
   trap-local s i registers h sound same =
       ap
       (λ (t : TrapStep).
       record {
-        answer = trapped (t .answer) (t .values);
+        answer = trapped (t .result);
         part = record { core = t .core; entry = getItem (s .map) (key i) };
         counter = t .counter;
       })
       (trap-step (s .policy) (s .cores) (s .counter) i registers (omega arith) (sound .eight)
-      ∙ ap (λ r. handleSyncLower r (getD (s .cores) i noCore) (s .counter) registers) same)
+      ∙ ap (λ r. handleSyncLower r (coreOf (s .cores) i) (s .counter) registers) same)
 
   local : (s : State) (c : CoreCall) (i : ℕ) → M .Sound s → Named key c → i < 8 → isOwn key i c ≡ true
       → _≡_ {A = Acted Part Answer}
@@ -159,7 +158,7 @@ module _ (key : ℕ → ℕ) (differ : KeysDiffer key) (regions : List MemoryAcc
   local s (trap core registers) i (sound, same) n h o = rw (eqb-true core i o) (trap-local s i registers h sound same)
   local s (reply core result) i (sound, same) n h o = rw (eqb-true core i o) (core-local s i _ h sound)
   local s (write-gpr form core index value) i (sound, same) n h o =
-      rw (eqb-true core i o, getD-set-same (s .cores) i _ noCore (omega (arith, sound .eight)))
+      rw (eqb-true core i o, getD-set-same (s .cores) i _ freshCore (omega (arith, sound .eight)))
   local s (insert k value) i (sound, same) n h o =
       rw (
         eqb-true k (key i) o,
@@ -176,7 +175,7 @@ module _ (key : ℕ → ℕ) (differ : KeysDiffer key) (regions : List MemoryAcc
   others s (trap core registers) i v n h o =
       rw (trap-others (s .policy) (s .cores) (s .counter) core registers i (λ z. eqb-false core i o (sym z)))
   others s (reply core result) i v n h o = rw (core-others (s .cores) core _ i (λ z. eqb-false core i o (sym z)))
-  others s (write-gpr form core index value) i v n h o = rw (getD-set-other (s .cores) core i _ noCore (λ z. eqb-false core i o (sym z)))
+  others s (write-gpr form core index value) i v n h o = rw (getD-set-other (s .cores) core i _ freshCore (λ z. eqb-false core i o (sym z)))
   others s (insert k value) i v n h o = rw (get-inserted-other (s .map) k (key i) value (eqb-false k (key i) o))
   others s (get k) i v n h o = refl
   others s (remove k) i v n h o = rw (get-removed-other (s .map) k (key i) (eqb-false k (key i) o))
@@ -212,7 +211,7 @@ module _ (key : ℕ → ℕ) (differ : KeysDiffer key) (regions : List MemoryAcc
   steady (trap core registers) l k k′ e =
       ap
       (λ (t : TrapStep).
-      record { answer = trapped (t .answer) (t .values); part = record { core = t .core; entry = l .entry }; counter = t .counter })
+      record { answer = trapped (t .result); part = record { core = t .core; entry = l .entry }; counter = t .counter })
       (step-steady regions (l .core) registers (kept-no-load (l .core) registers k e) k′ k)
   steady (reply core result) l k k′ e = refl
   steady (write-gpr form core index value) l k k′ e = refl

@@ -2,89 +2,40 @@
 -- it. Assumes nothing.
 use Prim.Native.Nat.{ℕ, _+_, _-_, _%_, _^_}
 use mathlib.Core.Path.{_≡_, refl, sym, _∙_, ap}
-use mathlib.Core.Bool.{Bool, true, false, cond}
+use mathlib.Core.Bool.{Bool, true, false}
 use mathlib.Core.List.{List, List·Memᴰ·head, List·Memᴰ·tail}
 use native.Mathlib.Omega.{arith}
 use lib.Dec.{ltb}
-use lib.ListN.{getD, set}
+use lib.ListN.{set}
 use Rattle.lists.specs.Refusals.{case}
 use Rattle.lists.proofs.Laws.{zero-none, all-numbered}
 use Rattle.memory_access.specs.declared.MemoryAccessKind.the-variants.{Read}
-use Rattle.memory_access.specs.Syndrome.{faultIpa, accessOf}
-use Rattle.memory_access.specs.Transfer.{extendReadResult}
-use Rattle.stage2_range.specs.declared.MemoryAccessRegion.{MemoryAccessRegion}
+use Rattle.memory_access.specs.Syndrome.{faultIpa}
 use Rattle.stage2_range.proofs.Registry.{find-held}
 use Rattle.stage2.specs.declared.Policy.{Policy}
 use Rattle.stage2.specs.Policy.{regionsHeld}
 use Rattle.stage2.specs.Builds.{WellFormed}
 use Rattle.stage2.proofs.WellFormed.{find-exact}
 use Rattle.exceptions.specs.declared.Core.{Core}
-use Rattle.exceptions.specs.Registers.{advancePc, writeGpr}
+use Rattle.exceptions.specs.Registers.{coreOf}
 use Rattle.forwarded_call.specs.ForwardedCall.{waits}
 use Rattle.data_abort.specs.declared.TrapRegisters.{TrapRegisters}
-use Rattle.data_abort.specs.DataAbort.{iss}
 use Rattle.data_abort.specs.CounterLoad.{CounterLoad}
-use Rattle.data_abort.proofs.CounterLoad.{counter-answered, counter-unused}
-use Rattle.hypervisor.specs.declared.CoreError.the-variants.{CoreWaiting}
-use Rattle.hypervisor.specs.declared.TrapAnswer.the-variants.{AccessHandled}
-use Rattle.hypervisor.specs.declared.TrapStep.{TrapStep}
+use Rattle.core_answers.specs.declared.TrapAnswer.the-variants.{AccessHandled}
 use Rattle.hypervisor.specs.declared.Trapped.{Trapped}
-use Rattle.hypervisor.specs.Answers.{trapNumber, noValues, answered, refusedTrap}
-use Rattle.hypervisor.specs.Trap.{ec, classOf, exceptionClass, byClass, handleSyncLower}
-use Rattle.hypervisor.specs.Cores.{noCore, trapOn, trapCases}
+use Rattle.core_answers.specs.Answers.{trapNumber, withoutValues}
+use Rattle.hypervisor.specs.Cores.{trapOn, trapCases}
 use Rattle.order_independence.specs.CounterWord.{LoadsCounterWord}
-use Rattle.hypervisor.proofs.Laws.{by-class}
+use Rattle.hypervisor.proofs.Counter.{counterRead, StepLoads, step-loads, step-steady}
 use Rattle.hypervisor.proofs.Refusals.{trap-number}
-
--- the core after a load of the counter word: Rt has the counter as it was, and ELR grows
-abbrev pub counterRead : Core → ℕ → TrapRegisters → Core
-counterRead core counter trap =
-    let access = accessOf (iss (trap .esr)) (trap .fipa) (trap .far) in
-    advancePc (writeGpr core (access .«register_index») (extendReadResult access counter) .core)
-
--- One core's trap, on any regions: idle, with EC 0x24 and a load of the counter word.
-pub record StepLoads (regions : List MemoryAccessRegion) (core : Core) (trap : TrapRegisters) : Type 0 where
-  pub idle : waits (core .wait) ≡ false
-  pub class : ec (trap .esr) ≡ 0x24
-  pub access : CounterLoad regions trap
-
-module _ (regions : List MemoryAccessRegion) (core : Core) (trap : TrapRegisters) where
-  pub step-loads : (counter : ℕ) → StepLoads regions core trap
-      → handleSyncLower regions core counter trap
-      ≡ record { answer = AccessHandled Read; values = noValues; core = counterRead core counter trap; counter = (counter + 1) % 2 ^ 64 }
-  unfolding handleSyncLower exceptionClass byClass answered
-  step-loads counter l = rw (l .idle, l .class, counter-answered regions core counter trap (l .access))
-
-  abbrev Steady : (ℕ → TrapStep) → Type 0
-  Steady f = (counter counter′ : ℕ) →
-      f counter ≡ record { answer = f counter′ .answer; values = f counter′ .values; core = f counter′ .core; counter = counter }
-
-  class-steady : (class : ℕ) → (class ≡ 0x24 → CounterLoad regions trap → ⊥)
-      → Steady (λ counter. byClass (classOf class) regions core counter trap)
-  unfolding byClass answered
-  class-steady class none =
-      by-class (λ c. Steady (λ counter. byClass c regions core counter trap)) class
-      (λ e counter counter′. refl)
-      (λ e counter counter′. refl)
-      (λ e counter counter′. rw (counter-unused regions core trap (none e) counter counter′))
-      (λ hvc smc abort counter counter′. refl)
-
-  pub step-steady : (StepLoads regions core trap → ⊥) → Steady (λ counter. handleSyncLower regions core counter trap)
-  unfolding handleSyncLower exceptionClass answered
-  step-steady none = go (waits (core .wait)) refl
-    where
-      go : (b : Bool) → waits (core .wait) ≡ b
-          → Steady (λ counter. cond b (refusedTrap CoreWaiting core counter) (byClass (classOf (ec (trap .esr))) regions core counter trap))
-      go true e = λ counter counter′. refl
-      go false e = class-steady (ec (trap .esr)) (λ class access. none (record { idle = e; class = class; access = access }))
 
 -- The trap of one of the eight cores, in document 01's words.
 module _ (policy : Policy) (cores : List Core) (counter i : ℕ) (trap : TrapRegisters) where
   abbrev core : Core
-  core = getD cores i noCore
+  core = coreOf cores i
 
   -- an accepted trap names one of the eight cores, which is idle
-  accepted-idle : trapNumber (trapOn policy cores counter i trap .answer) ≡ 0 → (ltb 7 i ≡ false) × (waits (core .wait) ≡ false)
+  accepted-idle : trapNumber (trapOn policy cores counter i trap .result .answer) ≡ 0 → (ltb 7 i ≡ false) × (waits (core .wait) ≡ false)
   accepted-idle e =
       let unmet = zero-none (trapCases policy cores counter i trap) (all-numbered _ refl) (sym (trap-number policy cores counter i trap) ∙ e) in
       (unmet (case 10 (ltb 7 i)) (List·Memᴰ·head refl), unmet (case 11 (waits (core .wait))) (List·Memᴰ·tail (List·Memᴰ·head refl)))
@@ -109,8 +60,7 @@ module _ (policy : Policy) (cores : List Core) (counter i : ℕ) (trap : TrapReg
   pub word-loaded : WellFormed policy → LoadsCounterWord policy cores counter i trap
       → trapOn policy cores counter i trap
       ≡ record {
-        answer = AccessHandled Read;
-        values = noValues;
+        result = withoutValues (AccessHandled Read);
         policy = policy;
         cores = set cores i (counterRead core counter trap);
         counter = (counter + 1) % 2 ^ 64;
@@ -144,7 +94,7 @@ module _ (policy : Policy) (cores : List Core) (counter i : ℕ) (trap : TrapReg
   SameAt counter′ =
       let t = trapOn policy cores counter i trap in
       trapOn policy cores counter′ i trap
-      ≡ record { answer = t .answer; values = t .values; policy = policy; cores = t .cores; counter = counter′ }
+      ≡ record { result = t .result; policy = policy; cores = t .cores; counter = counter′ }
 
   refused-same : (counter′ : ℕ) → ltb 7 i ≡ true → SameAt counter′
   unfolding trapOn

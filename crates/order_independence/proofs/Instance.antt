@@ -7,7 +7,6 @@ use mathlib.Core.Logic.{_⊎_, inl, inr}
 use native.Mathlib.Omega.{arith}
 use borrow.Author.Tests.{eqb-true}
 use lib.Dec.{eqb}
-use Rattle.memory_access.specs.Syndrome.{bitsAt}
 use Rattle.lists.specs.Lists.{held, select}
 use Rattle.stage2_range.specs.Ranges.{validateRange, sharesByte, overlapsAllowed}
 use Rattle.stage2_range.specs.Registry.{overlapsRegions, registerAnswer}
@@ -19,6 +18,7 @@ use Rattle.order_independence.specs.OrderIndependence.{Reordered, Separa
 use Rattle.order_independence.proofs.Needed.{page, load}
 use Rattle.order_independence.proofs.Computed.{hvc}
 use Rattle.order_independence.proofs.OrderIndependence.{order-independent}
+use Rattle.bits.specs.Bits.{bitsAt}
 
 abbrev key : ℕ → ℕ
 key i = 100 + i

@@ -5,8 +5,8 @@ use mathlib.Core.List.{List, [], _∷_, map}
 use native.Mathlib.Omega.{arith}
 use lib.ListN.{getD}
 use Rattle.lists.specs.Lists.{held}
-use Rattle.memory_access.specs.Syndrome.{bitsAt, bitAt, faultIpa, decodeAccess}
-use Rattle.memory_access.specs.Transfer.{lowBits, signExtend, loaded, atRegisterWidth, extendReadResult}
+use Rattle.memory_access.specs.Syndrome.{faultIpa, decodeAccess}
+use Rattle.memory_access.specs.Transfer.{signExtend, loaded, atRegisterWidth, extendReadResult}
 use Rattle.stage2_range.specs.Ranges.{validateRange, sharesByte, overlapsAllowed}
 use Rattle.stage2_range.specs.Registry.{overlapsRegions, findRegion, insertRegion, registerAnswer}
 use Rattle.stage2.specs.Policy.{freshPolicy, allowAnswerFor, addAllowed, allowRange, handleAnswerFor, addRegion, handleRange}
@@ -14,16 +14,16 @@ use Rattle.stage2.specs.Builds.{handle}
 use Rattle.simple_map.specs.declared.SuspendCoreData.{SuspendCoreData}
 use Rattle.simple_map.specs.declared.Insertion.the-variants.{Accepted, CapacityExceeded}
 use Rattle.simple_map.specs.Map.{isFree, holdsKey, valueOf, emptyMap, without, getItem, hasRoom, insertItem, lookupValues}
-use Rattle.exceptions.specs.Registers.{freshCore, withRegisters, advancePc, writeGpr}
+use Rattle.exceptions.specs.Registers.{freshCore, withRegisters, advancePc, writeGpr, coreOf}
 use Rattle.qemu.specs.FilteredMmio.{pageWord, loadsCounter, counterAfter, readFilteredMmio}
 use Rattle.data_abort.specs.declared.TrapRegisters.{TrapRegisters}
 use Rattle.data_abort.specs.DataAbort.{injectionDue, handleDataAbort}
-use Rattle.hypervisor.specs.Answers.{answered}
 use Rattle.hypervisor.specs.Trap.{exceptionClass, byClass, handleSyncLower}
-use Rattle.hypervisor.specs.Cores.{noCore, freshCores, trapOn}
+use Rattle.hypervisor.specs.Cores.{freshCores, trapOn}
 use Rattle.order_independence.specs.Calls.{State, freshState, by-value, CoreCall, trap, write-gpr, insert, Answer, inserted, afterBuilds, afterSteps, answersTo}
 use Rattle.order_independence.specs.Steps.{isOwn}
 use Rattle.order_independence.specs.OrderIndependence.{Same}
+use Rattle.bits.specs.Bits.{bitAt, bitsAt, lowBits}
 
 -- a state with the filtered MMIO page, and a 64-bit load of its word at 16 into x5
 abbrev pub page : State
@@ -39,9 +39,9 @@ unfolding
     held bitsAt bitAt faultIpa decodeAccess lowBits signExtend loaded atRegisterWidth extendReadResult validateRange sharesByte
     overlapsAllowed overlapsRegions findRegion insertRegion registerAnswer freshPolicy allowAnswerFor addAllowed allowRange
     handleAnswerFor addRegion handleRange freshState freshCore withRegisters advancePc writeGpr pageWord loadsCounter counterAfter
-    readFilteredMmio injectionDue handleDataAbort answered exceptionClass byClass handleSyncLower freshCores trapOn
+    readFilteredMmio injectionDue handleDataAbort exceptionClass byClass handleSyncLower freshCores trapOn
 two-loaders key same =
-    let e : _≡_ {A = ℕ} 0 1 = ap (λ cores. getD (getD cores 0 noCore .x) 5 9) (same .all-cores) in
+    let e : _≡_ {A = ℕ} 0 1 = ap (λ cores. getD (coreOf cores 0 .x) 5 9) (same .all-cores) in
     omega arith
 
 -- One core's own steps in another order: the last write stays.
@@ -50,7 +50,7 @@ pub own-steps-swapped : (key : ℕ → ℕ)
     (afterSteps freshState (write-gpr by-value 0 5 2 ∷ write-gpr by-value 0 5 1 ∷ [])) → ⊥
 unfolding freshState freshCores freshCore writeGpr withRegisters
 own-steps-swapped key same =
-    let e : _≡_ {A = ℕ} 2 1 = ap (λ cores. getD (getD cores 0 noCore .x) 5 9) (same .all-cores) in
+    let e : _≡_ {A = ℕ} 2 1 = ap (λ cores. getD (coreOf cores 0 .x) 5 9) (same .all-cores) in
     omega arith
 
 -- Two cores with one key: what either finds is what was inserted last. (Steps that name one key are one core's own, and keep their order.)

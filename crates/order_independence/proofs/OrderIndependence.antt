@@ -5,7 +5,6 @@ use mathlib.Core.List.{List, [], _∷_}
 use mathlib.Core.Logic.{inl, inr}
 use native.Mathlib.Omega.{arith}
 use native.Mathlib.Decide.{ℕ-discrete}
-use lib.ListN.{getD}
 use lib.Seq.{ext-getD}
 use Rattle.lists.proofs.Sorting.{perm-member}
 use Rattle.stage2_range.specs.declared.MemoryAccessRegion.{MemoryAccessRegion}
@@ -13,7 +12,6 @@ use Rattle.stage2.specs.Policy.{regionsHeld}
 use Rattle.stage2.specs.Builds.{buildAll}
 use Rattle.order_independence.proofs.Builds.{any-order}
 use Rattle.simple_map.specs.Keys.{KeysDiffer}
-use Rattle.hypervisor.specs.Cores.{noCore}
 use Rattle.order_independence.specs.Calls.{State, freshState, CoreCall, coreCall, afterBuilds, afterSteps}
 use Rattle.order_independence.specs.Steps.{Named, Loads}
 use Rattle.order_independence.specs.OrderIndependence.{Same, OrderIndependentFrom, OrderIndependent, Sound}
@@ -21,6 +19,7 @@ use Rattle.order_independence.proofs.Mixing.{Moves, mixed}
 use Rattle.order_independence.proofs.CoreCalls.{Part, coreSystem, core-laws}
 use Rattle.order_independence.proofs.Counter.{counter-kept, own-load}
 use Rattle.order_independence.proofs.Runs.{fresh-sound, sound-builds, sound-steps, steps-policy, same-refl, all-above-10}
+use Rattle.exceptions.specs.Registers.{coreOf, freshCore}
 
 -- A core that changes the counter cannot but load its word, so where one core at most loads it, one at most changes it.
 module _ (key : ℕ → ℕ) (differ : KeysDiffer key) (regions : List MemoryAccessRegion) where
@@ -55,7 +54,7 @@ order-independent-from key s t sound-s sound-t same calls order steps again done
     let m =
     mixed (coreSystem key regions) (core-laws key differ regions) p q steps again (sound-p, refl) (sound-q, sym (b .1 .regions))
     (apart .all-named) named
-    (record { counters = same .counters; parts = λ i h j. record { core = getD (same .all-cores j) i noCore; entry = same .entries i h j } })
+    (record { counters = same .counters; parts = λ i h j. record { core = coreOf (same .all-cores j) i; entry = same .entries i h j } })
     (done .own-order) (one-changes key differ regions steps p (apart .one-loader)) in
     let end-p = sound-steps key differ steps p sound-p (apart .all-named) in
     let end-q = sound-steps key differ again q sound-q named in
@@ -65,7 +64,7 @@ order-independent-from key s t sound-s sound-t same calls order steps again done
         policies = rw (steps-policy steps p, steps-policy again q) (b .1);
         counters = m .0 .counters;
         all-cores =
-            ext-getD noCore (afterSteps p steps .cores) (afterSteps q again .cores) (end-p .eight ∙ sym (end-q .eight))
+            ext-getD freshCore (afterSteps p steps .cores) (afterSteps q again .cores) (end-p .eight ∙ sym (end-q .eight))
             (λ i h. ap (λ (l : Part). l .core) (m .0 .parts i (omega (arith, end-p .eight))));
         entries = λ i h. ap (λ (l : Part). l .entry) (m .0 .parts i h);
       };

@@ -4,7 +4,7 @@ use mathlib.Core.Path.{_≡_}
 use mathlib.Core.Bool.{Bool, true, false, _&&_, cond}
 use mathlib.Core.List.{List, [], _∷_, foldl, List·Memᴰ}
 use lib.Dec.{eqb}
-use lib.ListN.{getD, set}
+use lib.ListN.{set}
 use Rattle.stage2_range.specs.declared.Stage2Result.{Stage2Result}
 use Rattle.stage2_range.specs.Ranges.{resultNumber}
 use Rattle.stage2.specs.declared.Policy.{Policy}
@@ -18,14 +18,13 @@ use Rattle.simple_map.specs.Map.{emptyMap, getItem, removeItem, insertItem, ins
 use Rattle.exceptions.specs.declared.Core.{Core}
 use Rattle.exceptions.specs.declared.GprWrite.{GprWrite}
 use Rattle.exceptions.specs.declared.Wait.{Wait}
-use Rattle.exceptions.specs.Registers.{writeGpr, writeNumber}
+use Rattle.exceptions.specs.Registers.{writeGpr, writeNumber, coreOf}
 use Rattle.data_abort.specs.declared.TrapRegisters.{TrapRegisters}
 use Rattle.forwarded_call.specs.declared.HvcReply.{HvcReply}
-use Rattle.hypervisor.specs.declared.CoreAnswer.{CoreAnswer}
-use Rattle.hypervisor.specs.declared.TrapAnswer.{TrapAnswer}
-use Rattle.hypervisor.specs.declared.TrapAnswer.the-variants as trap-answer
-use Rattle.hypervisor.specs.Answers.{coreNumber, trapNumber, trapKind}
-use Rattle.hypervisor.specs.Cores.{noCore, freshCores, saveOn, replyOn, trapOn}
+use Rattle.core_answers.specs.declared.CoreAnswer.{CoreAnswer}
+use Rattle.core_answers.specs.declared.TrapResult.{TrapResult}
+use Rattle.core_answers.specs.Answers.{coreNumber, trapNumber, resultWords, isForwarded}
+use Rattle.hypervisor.specs.Cores.{freshCores, saveOn, replyOn, trapOn}
 
 -- the state that calls are given and hand back
 pub record State : Type 0 where
@@ -63,7 +62,7 @@ pub data HostCall : Type 0 where
 pub data Answer : Type 0 where
   built : Stage2Result → Answer
   stepped : CoreAnswer → Answer
-  trapped : TrapAnswer → List ℕ → Answer
+  trapped : TrapResult → Answer
   written : GprWrite → Answer
   inserted : Insertion → Answer
   looked-up : Lookup → Answer
@@ -72,7 +71,7 @@ pub data Answer : Type 0 where
 abbrev pub answerNumber : Answer → ℕ
 answerNumber (built answer) = resultNumber answer
 answerNumber (stepped answer) = coreNumber answer
-answerNumber (trapped answer values) = trapNumber answer
+answerNumber (trapped result) = trapNumber (result .answer)
 answerNumber (written answer) = writeNumber answer
 answerNumber (inserted answer) = insertNumber answer
 answerNumber (looked-up answer) = 0
@@ -81,7 +80,7 @@ answerNumber (looked-up answer) = 0
 abbrev pub answerValues : Answer → List ℕ
 answerValues (built answer) = []
 answerValues (stepped answer) = []
-answerValues (trapped answer values) = trapKind answer ∷ values
+answerValues (trapped result) = resultWords result
 answerValues (written answer) = []
 answerValues (inserted answer) = []
 answerValues (looked-up answer) = lookupValues answer
@@ -113,14 +112,14 @@ coreCall s (save core x elr spsr) =
 coreCall s (trap core registers) =
     let t = trapOn (s .policy) (s .cores) (s .counter) core registers in
     record {
-      answer = trapped (t .answer) (t .values);
+      answer = trapped (t .result);
       state = record { policy = t .policy; cores = t .cores; counter = t .counter; map = s .map };
     }
 coreCall s (reply core result) =
     let r = replyOn (s .cores) core result in
     record { answer = stepped (r .answer); state = withCores s (r .cores) }
 coreCall s (write-gpr form core index value) =
-    let w = writeGpr (getD (s .cores) core noCore) index value in
+    let w = writeGpr (coreOf (s .cores) core) index value in
     record { answer = written (w .answer); state = withCores s (set (s .cores) core (w .core)) }
 coreCall s (insert key value) =
     let i = insertItem (s .map) key value in
@@ -161,21 +160,14 @@ callAll s (c ∷ cs) = callAll (call s c .state) cs
 
 -- what a core waits for
 abbrev pub waitOf : State → ℕ → Wait
-waitOf s i = getD (s .cores) i noCore .wait
-
--- a trap handed the guest's call out
-abbrev pub isForwarded : TrapAnswer → Bool
-isForwarded (trap-answer.AccessHandled kind) = false
-isForwarded trap-answer.AbortInjected = false
-isForwarded (trap-answer.Forwarded recipient) = true
-isForwarded (trap-answer.Refused error) = false
+waitOf s i = coreOf (s .cores) i .wait
 
 -- whether core `i` is between a forwarded call (document 01: a hand-out) and its reply, after one more call
 abbrev pub outstandingAfter : State → ℕ → Bool → HostCall → Bool
 outstandingAfter s i before (build c) = before
 outstandingAfter s i before (core-call (save core x elr spsr)) = before
 outstandingAfter s i before (core-call (trap core registers)) =
-    cond (eqb core i && isForwarded (trapOn (s .policy) (s .cores) (s .counter) core registers .answer)) true before
+    cond (eqb core i && isForwarded (trapOn (s .policy) (s .cores) (s .counter) core registers .result .answer)) true before
 outstandingAfter s i before (core-call (reply core result)) =
     cond (eqb core i && eqb (coreNumber (replyOn (s .cores) core result .answer)) 0) false before
 outstandingAfter s i before (core-call (write-gpr form core index value)) = before

@@ -11,14 +11,14 @@ use Rattle.stage2.specs.Policy.{regionsHeld}
 use Rattle.exceptions.specs.declared.Core.{Core}
 use Rattle.data_abort.specs.declared.TrapRegisters.{TrapRegisters}
 use Rattle.data_abort.specs.DataAbort.{iss}
-use Rattle.hypervisor.specs.Answers.{trapNumber}
+use Rattle.core_answers.specs.Answers.{trapNumber}
 use Rattle.hypervisor.specs.Trap.{ec}
 use Rattle.hypervisor.specs.Cores.{trapOn}
 
 -- "A core loads the counter word by an accepted trap with EC 0x24, ISV set, WnR clear and SAS 3 whose IPA is 16 above the base of a region
 -- then held, to which an accepted handle call gave read half 1"
 pub record LoadsCounterWord (policy : Policy) (cores : List Core) (counter i : ℕ) (trap : TrapRegisters) : Type 0 where
-  pub accepted : trapNumber (trapOn policy cores counter i trap .answer) ≡ 0
+  pub accepted : trapNumber (trapOn policy cores counter i trap .result .answer) ≡ 0
   pub class : ec (trap .esr) ≡ 0x24
   pub isv-set : isv (iss (trap .esr)) ≡ true
   pub wnr-clear : wnr (iss (trap .esr)) ≡ false

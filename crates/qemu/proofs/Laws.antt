@@ -7,6 +7,8 @@ use lib.Dec.{eqb}
 use Rattle.stage2_range.specs.declared.MemoryReadAccess.{MemoryReadAccess}
 use Rattle.stage2_range.specs.declared.MemoryReadResult.the-variants.{Value, Fault}
 use Rattle.qemu.specs.FilteredMmio.{is64, pageWord, loadsCounter, counterAfter, readFilteredMmio}
+use Rattle.bits.specs.Bits.{FitsWord}
+use native.Mathlib.Omega.{arith}
 
 counter-word : (offset counter : ℕ) (is64 : Bool) → (is64 && eqb offset 16) ≡ true → cond is64 (pageWord offset counter) Fault ≡ Value counter
 unfolding pageWord
@@ -30,3 +32,9 @@ pub counter-kept : (access : MemoryReadAccess) (counter counter′ : ℕ) → lo
     → (readFilteredMmio access counter .result ≡ readFilteredMmio access counter′ .result) × (readFilteredMmio access counter .counter ≡ counter)
 unfolding readFilteredMmio loadsCounter counterAfter
 counter-kept access counter counter′ e = (other-word (access .offset) counter counter′ (is64 (access .width)) e, rw e)
+
+-- the counter fits a word, whether it grows or not
+pub counter-fits : (loads : Bool) (counter : ℕ) → FitsWord counter → FitsWord (counterAfter loads counter)
+unfolding counterAfter
+counter-fits true counter h = omega arith
+counter-fits false counter h = h

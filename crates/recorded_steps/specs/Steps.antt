@@ -10,12 +10,13 @@ use Rattle.records.specs.Records.{expected, noRecord, placeCompared}
 use Rattle.memory_access.specs.Transfer.{twosComplement}
 use Rattle.stage2.specs.declared.Policy.{Policy}
 use Rattle.exceptions.specs.declared.Core.{Core}
-use Rattle.exceptions.specs.Registers.{readGpr, readNumber, readValue, writeGpr, writeNumber}
+use Rattle.exceptions.specs.Registers.{readGpr, readNumber, readValue, writeGpr, writeNumber, coreOf, freshCore}
 use Rattle.hypervisor.specs.declared.CoresStep.{CoresStep}
 use Rattle.hypervisor.specs.declared.Trapped.{Trapped}
-use Rattle.hypervisor.specs.Answers.{coreNumber, trapNumber, trapKind}
-use Rattle.hypervisor.specs.Cores.{freshCores, noCore, saveOn, replyOn, trapOn}
+use Rattle.core_answers.specs.Answers.{coreNumber, trapNumber, resultWords}
+use Rattle.hypervisor.specs.Cores.{freshCores, saveOn, replyOn, trapOn}
 use Rattle.recorded_steps.specs.declared.CoresTaken.{CoresTaken}
+use Rattle.hvc_response.specs.Response.{replyLength}
 
 -- a record that is compared, with cores and counter
 abbrev pub passed : Record → List Core → ℕ → CoresTaken
@@ -37,7 +38,7 @@ trapMade policy cores counter call =
 -- what a trap comes to: number, kind, values
 abbrev pub trapTaken : Record → Trapped → CoresTaken
 trapTaken r step =
-    passed (foldl expected r (trapNumber (step .answer) ∷ trapKind (step .answer) ∷ step .values)) (step .cores) (step .counter)
+    passed (foldl expected r (trapNumber (step .result .answer) ∷ resultWords (step .result))) (step .cores) (step .counter)
 
 -- the reply that a record names: its values are the fields from place 3 on, and after them its error, 32 bits of two's complement; a line
 -- with a wider one is no record
@@ -46,14 +47,14 @@ replyTaken cores counter r call =
     let error = getD (r .fields) 21 0 in
     cond (ltb error (2 ^ 32))
     (stepTaken r counter
-    (replyOn cores (call .a) (record { kind = call .b; values = take 18 (drop 3 (r .fields)); error = twosComplement 32 error })))
+    (replyOn cores (call .a) (record { kind = call .b; values = take replyLength (drop 3 (r .fields)); error = twosComplement 32 error })))
     (passed (noRecord r) cores counter)
 
 -- a register written, in either form: number; a line that names a core above 7 is no record
 abbrev pub writeTaken : List Core → ℕ → Record → Call → CoresTaken
 writeTaken cores counter r call =
     cond (ltb (call .a) 8)
-    (let written = writeGpr (getD cores (call .a) noCore) (call .b) (call .c) in
+    (let written = writeGpr (coreOf cores (call .a)) (call .b) (call .c) in
     passed (expected r (writeNumber (written .answer))) (set cores (call .a) (written .core)) counter)
     (passed (noRecord r) cores counter)
 
@@ -76,9 +77,9 @@ coreWords core =
 -- the records that leave the cores as they are: f a core's state, 10 the counter, 14 a register
 unfoldable pub coreRead : List Core → ℕ → Record → Call → Record
 coreRead cores counter r call =
-    cond (eqb (call .code) 0xF) (placeCompared 8 cores noCore coreWords r (call .a))
+    cond (eqb (call .code) 0xF) (placeCompared 8 cores freshCore coreWords r (call .a))
     (cond (eqb (call .code) 0x10) (expected r counter)
-    (cond (eqb (call .code) 0x14) (placeCompared 8 cores noCore (gprWords (call .b)) r (call .a))
+    (cond (eqb (call .code) 0x14) (placeCompared 8 cores freshCore (gprWords (call .b)) r (call .a))
     r))
 
 -- 0 is fresh cores and a counter, 4 saves, 5 traps, 6 replies, 7 and 16 write a register; a record of something else passes

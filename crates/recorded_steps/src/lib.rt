@@ -3,8 +3,7 @@
 ghost use mathlib.Core.Path.{_≡_};
 ghost use Prim.Native.Nat.{_^_, _<_};
 ghost use Rattle.memory_access.specs.Transfer.{twosComplement};
-ghost use Rattle.exceptions.specs.Registers.{writeGpr};
-ghost use Rattle.hypervisor.specs.Cores.{noCore};
+ghost use Rattle.exceptions.specs.Registers.{writeGpr, freshCore};
 ghost use Rattle.records.specs.Records.{placeCompared};
 ghost use Rattle.recorded_steps.specs.Steps.{passed, saveMade, stepTaken, trapMade, trapTaken, replyTaken, writeTaken, gprWords, coreWords, coreRead, coresTaken};
 use data_abort::TrapRegisters;
@@ -109,8 +108,9 @@ fn trap(policy: Policy, cores: [Core; 8], counter: u64, call: Call) -> Trapped
 fn trapped(recorded: Record, step: Trapped) -> CoresTaken
     ensures { λ r. ⌜ r ≡ trapTaken recorded step ⌝ }
 {
-    let answer = step.answer;
-    let values = step.values;
+    let result = step.result;
+    let answer = result.answer;
+    let values = result.values;
     let cores = step.cores;
     CoresTaken {
         compared: recorded
@@ -183,7 +183,7 @@ fn written(core: Core, index: usize, value: u64, lent: bool) -> GprWritten
 
 // core index | number value
 fn read_gpr(cores: [Core; 8], recorded: Record, call: Call) -> Record
-    ensures { λ r. ⌜ r ≡ placeCompared 8 cores noCore (gprWords (call .b)) recorded (call .a) ⌝ }
+    ensures { λ r. ⌜ r ≡ placeCompared 8 cores freshCore (gprWords (call .b)) recorded (call .a) ⌝ }
 {
     let at = call.a;
     if LAST_CORE < at {
@@ -195,7 +195,7 @@ fn read_gpr(cores: [Core; 8], recorded: Record, call: Call) -> Record
 
 // core | x0..x30 elr spsr elr_el1 spsr_el1 far_el1 esr_el1
 fn core_state(cores: [Core; 8], recorded: Record, at: u64) -> Record
-    ensures { λ r. ⌜ r ≡ placeCompared 8 cores noCore coreWords recorded at ⌝ }
+    ensures { λ r. ⌜ r ≡ placeCompared 8 cores freshCore coreWords recorded at ⌝ }
 {
     if LAST_CORE < at {
         return recorded.no_record();

@@ -1,16 +1,16 @@
 // What an EL2 host in C or Rust calls: plain numbers, and bytes that it lends. A call returns 0 or the number of its refusal; a refusal leaves
 // the state's bytes as they were, and a result is written whole on every call, zeros where there is nothing.
 ghost use mathlib.Core.Path.{_≡_};
+ghost use mathlib.Core.List.{[]};
 ghost use lib.ListN.{replicate};
 ghost use Rattle.hypervisor.specs.Cores.{freshCores};
 ghost use Rattle.lent_policy.specs.Layout.{policyAt};
-ghost use Rattle.lent_cores.specs.Layout.{coresAt, counterAt};
-ghost use Rattle.lent_map.specs.Layout.{mapAt};
+ghost use Rattle.lent_cores.specs.Layout.{coresAt, counterAt, coresSize};
+ghost use Rattle.lent_map.specs.Layout.{mapAt, mapSize};
 ghost use Rattle.simple_map.specs.Map.{emptyMap};
 ghost use Rattle.stage2.specs.Policy.{freshPolicy};
-ghost use Rattle.ritm.specs.Interface.{allowCall, handleCall, findCall, saveCall, replyCall, trapRegisters, trapCall, readCall, writeCall, insertCall, getCall, removeCall, decodeCall, extendCall, alignDownCall, alignUpCall, bufferSize};
+ghost use Rattle.ritm.specs.Interface.{Leaves, allowCall, handleCall, findCall, saveCall, replyCall, trapRegisters, trapCall, readCall, writeCall, insertCall, getCall, removeCall, decodeCall, extendCall, alignDownCall, alignUpCall, bufferSize};
 use data_abort::TrapRegisters;
-use hypervisor::CoreError;
 use lent_cores::CORES_SIZE;
 use lent_cores::REGISTERS_SIZE;
 use lent_cores::TRAP_RESULT_SIZE;
@@ -23,7 +23,6 @@ use lent_words::THREE_WORDS;
 use memory_access::Decoded;
 use memory_access::Fipa;
 use memory_access::MemoryAccess;
-use simple_map::SuspendCoreData;
 
 // No range, no region.
 #[no_mangle]
@@ -38,7 +37,7 @@ pub extern "C" fn ritm_fresh_policy(policy: &mut [u8; POLICY_SIZE]) -> u64
 #[no_mangle]
 pub extern "C" fn ritm_fresh_cores(cores: &mut [u8; CORES_SIZE]) -> u64
     ensures { λ r. ⌜ (r ≡ 0)
-        × (now (cores .exit) ≡ replicate 2440 0)
+        × (now (cores .exit) ≡ replicate coresSize 0)
         × (coresAt (now (cores .exit)) ≡ freshCores)
         × (counterAt (now (cores .exit)) ≡ 0) ⌝ }
 {
@@ -49,7 +48,7 @@ pub extern "C" fn ritm_fresh_cores(cores: &mut [u8; CORES_SIZE]) -> u64
 // No entry.
 #[no_mangle]
 pub extern "C" fn ritm_fresh_map(map: &mut [u8; MAP_SIZE]) -> u64
-    ensures { λ r. ⌜ (r ≡ 0) × (now (map .exit) ≡ replicate 256 0) × (mapAt (now (map .exit)) ≡ emptyMap) ⌝ }
+    ensures { λ r. ⌜ (r ≡ 0) × (now (map .exit) ≡ replicate mapSize 0) × (mapAt (now (map .exit)) ≡ emptyMap) ⌝ }
 {
     *map = [0u8; MAP_SIZE];
     0
@@ -105,8 +104,6 @@ pub extern "C" fn ritm_find(
     0
 }
 
-const LAST_CORE: u64 = 7;
-
 // Puts in a core's registers as the hardware saved them: refusals 10, 11.
 #[no_mangle]
 pub extern "C" fn ritm_save(
@@ -114,24 +111,9 @@ pub extern "C" fn ritm_save(
     core: u64,
     registers: &[u8; REGISTERS_SIZE],
 ) -> u64
-    ensures { λ r. ⌜ (r ≡ saveCall (now (cores .entry)) core (now (registers .entry)) .number)
-        × (now (cores .exit) ≡ saveCall (now (cores .entry)) core (now (registers .entry)) .state) ⌝ }
+    ensures { λ r. ⌜ Leaves (saveCall (now (cores .entry)) core (now (registers .entry))) r (now (cores .exit)) [] ⌝ }
 {
-    if LAST_CORE < core {
-        return CoreError::NoSuchCore.number();
-    }
-    let x = lent_cores::get_saved_x(registers);
-    let elr = lent_cores::get_saved_elr(registers);
-    let spsr = lent_cores::get_saved_spsr(registers);
-    let step = hypervisor::save_core(lent_cores::get_core(cores, core), x, elr, spsr);
-    let answer = step.answer;
-    let number = answer.number();
-    if number != 0 {
-        return number;
-    }
-    let after = step.core;
-    lent_cores::put_core(cores, core, after);
-    0
+    lent_core::save(cores, core, registers)
 }
 
 // Takes a core's trap: refusals 10 to 13. The result is the answer's kind and the values of a forwarded call.
@@ -146,9 +128,7 @@ pub extern "C" fn ritm_trap(
     vbar: u64,
     result: &mut [u8; TRAP_RESULT_SIZE],
 ) -> u64
-    ensures { λ r. ⌜ (r ≡ trapCall (now (policy .entry)) (now (cores .entry)) core (trapRegisters esr fipa far vbar) .number)
-        × (now (cores .exit) ≡ trapCall (now (policy .entry)) (now (cores .entry)) core (trapRegisters esr fipa far vbar) .state)
-        × (now (result .exit) ≡ trapCall (now (policy .entry)) (now (cores .entry)) core (trapRegisters esr fipa far vbar) .result) ⌝ }
+    ensures { λ r. ⌜ Leaves (trapCall (now (policy .entry)) (now (cores .entry)) core (trapRegisters esr fipa far vbar)) r (now (cores .exit)) (now (result .exit)) ⌝ }
 {
     let fipa = Fipa(fipa);
     let trap = TrapRegisters {
@@ -169,8 +149,7 @@ pub extern "C" fn ritm_reply(
     values: &[u8; VALUES_SIZE],
     error: i32,
 ) -> u64
-    ensures { λ r. ⌜ (r ≡ replyCall (now (cores .entry)) core kind (now (values .entry)) error .number)
-        × (now (cores .exit) ≡ replyCall (now (cores .entry)) core kind (now (values .entry)) error .state) ⌝ }
+    ensures { λ r. ⌜ Leaves (replyCall (now (cores .entry)) core kind (now (values .entry)) error) r (now (cores .exit)) [] ⌝ }
 {
     lent_reply::reply(cores, core, kind, values, error)
 }
@@ -183,16 +162,9 @@ pub extern "C" fn ritm_read_gpr(
     index: u64,
     result: &mut [u8; ONE_WORD],
 ) -> u64
-    ensures { λ r. ⌜ (r ≡ readCall (now (cores .entry)) core index .number)
-        × (now (result .exit) ≡ readCall (now (cores .entry)) core index .result) ⌝ }
+    ensures { λ r. ⌜ Leaves (readCall (now (cores .entry)) core index) r (now (cores .entry)) (now (result .exit)) ⌝ }
 {
-    if LAST_CORE < core {
-        lent_words::put_one_word(result, 0);
-        return CoreError::NoSuchCore.number();
-    }
-    let read = lent_core::get_gpr(cores, core, index as usize);
-    lent_words::put_one_word(result, read.value());
-    read.number()
+    lent_core::read_gpr(cores, core, index, result)
 }
 
 // Writes a guest register: refusals 10, 17.
@@ -203,15 +175,9 @@ pub extern "C" fn ritm_write_gpr(
     index: u64,
     value: u64,
 ) -> u64
-    ensures { λ r. ⌜ (r ≡ writeCall (now (cores .entry)) core index value .number)
-        × (now (cores .exit) ≡ writeCall (now (cores .entry)) core index value .state) ⌝ }
+    ensures { λ r. ⌜ Leaves (writeCall (now (cores .entry)) core index value) r (now (cores .exit)) [] ⌝ }
 {
-    if LAST_CORE < core {
-        return CoreError::NoSuchCore.number();
-    }
-    // A refusal stores the core as it stands: of bytes, that changes nothing.
-    lent_words::are_bytes(cores);
-    lent_core::put_gpr(cores, core, index as usize, value).number()
+    lent_core::write_gpr(cores, core, index, value)
 }
 
 // Holds an entry under a key, in place of the key's last one: refusal 16.
@@ -222,24 +188,17 @@ pub extern "C" fn ritm_insert(
     entry_point: u64,
     context_id: u64,
 ) -> u64
-    ensures { λ r. ⌜ (r ≡ insertCall (now (map .entry)) key «entry_point» «context_id» .number)
-        × (now (map .exit) ≡ insertCall (now (map .entry)) key «entry_point» «context_id» .state) ⌝ }
+    ensures { λ r. ⌜ Leaves (insertCall (now (map .entry)) key «entry_point» «context_id») r (now (map .exit)) [] ⌝ }
 {
-    let value = SuspendCoreData {
-        entry_point,
-        context_id,
-    };
-    lent_map::insert_entry(map, key, value).number()
+    lent_map::insert(map, key, entry_point, context_id)
 }
 
 // The entry of a key: whether there is one, its entry point and its context id.
 #[no_mangle]
 pub extern "C" fn ritm_get(map: &[u8; MAP_SIZE], key: u64, result: &mut [u8; THREE_WORDS]) -> u64
-    ensures { λ r. ⌜ (r ≡ getCall (now (map .entry)) key .number)
-        × (now (result .exit) ≡ getCall (now (map .entry)) key .result) ⌝ }
+    ensures { λ r. ⌜ Leaves (getCall (now (map .entry)) key) r (now (map .entry)) (now (result .exit)) ⌝ }
 {
-    lent_map::put_lookup(result, lent_map::get_entry(map, key));
-    0
+    lent_map::get(map, key, result)
 }
 
 // The same, and the entry is held no more.
@@ -249,19 +208,15 @@ pub extern "C" fn ritm_remove(
     key: u64,
     result: &mut [u8; THREE_WORDS],
 ) -> u64
-    ensures { λ r. ⌜ (r ≡ removeCall (now (map .entry)) key .number)
-        × (now (map .exit) ≡ removeCall (now (map .entry)) key .state)
-        × (now (result .exit) ≡ removeCall (now (map .entry)) key .result) ⌝ }
+    ensures { λ r. ⌜ Leaves (removeCall (now (map .entry)) key) r (now (map .exit)) (now (result .exit)) ⌝ }
 {
-    lent_map::put_lookup(result, lent_map::remove_entry(map, key));
-    0
+    lent_map::remove(map, key, result)
 }
 
 // The access that a syndrome describes: IPA, bits, WnR, Rt, SSE, SF; refusal 19.
 #[no_mangle]
 pub extern "C" fn ritm_decode(iss: u32, fipa: u64, far: u64, result: &mut [u8; SIX_WORDS]) -> u64
-    ensures { λ r. ⌜ (r ≡ decodeCall iss fipa far .number)
-        × (now (result .exit) ≡ decodeCall iss fipa far .result) ⌝ }
+    ensures { λ r. ⌜ Leaves (decodeCall iss fipa far) r [] (now (result .exit)) ⌝ }
 {
     let decoded = MemoryAccess::decode(iss, Fipa(fipa), far);
     lent_words::put_six(result, decoded.values());
@@ -271,8 +226,7 @@ pub extern "C" fn ritm_decode(iss: u32, fipa: u64, far: u64, result: &mut [u8; S
 // What a load with this syndrome puts into its register, of the value that was read: refusal 19.
 #[no_mangle]
 pub extern "C" fn ritm_extend_read_result(iss: u32, value: u64, result: &mut [u8; ONE_WORD]) -> u64
-    ensures { λ r. ⌜ (r ≡ extendCall iss value .number)
-        × (now (result .exit) ≡ extendCall iss value .result) ⌝ }
+    ensures { λ r. ⌜ Leaves (extendCall iss value) r [] (now (result .exit)) ⌝ }
 {
     match MemoryAccess::decode(iss, Fipa(0), 0) {
         Decoded::Access(access) => {
@@ -289,8 +243,7 @@ pub extern "C" fn ritm_extend_read_result(iss: u32, value: u64, result: &mut [u8
 // The page boundary at or below an address.
 #[no_mangle]
 pub extern "C" fn ritm_align_down_to_page(address: u64, result: &mut [u8; ONE_WORD]) -> u64
-    ensures { λ r. ⌜ (r ≡ alignDownCall address .number)
-        × (now (result .exit) ≡ alignDownCall address .result) ⌝ }
+    ensures { λ r. ⌜ Leaves (alignDownCall address) r [] (now (result .exit)) ⌝ }
 {
     lent_words::put_one_word(result, stage2_range::align_down_to_page(address));
     0
@@ -299,8 +252,7 @@ pub extern "C" fn ritm_align_down_to_page(address: u64, result: &mut [u8; ONE_WO
 // The page boundary at or above an address: refusal 18.
 #[no_mangle]
 pub extern "C" fn ritm_align_up_to_page(address: u64, result: &mut [u8; ONE_WORD]) -> u64
-    ensures { λ r. ⌜ (r ≡ alignUpCall address .number)
-        × (now (result .exit) ≡ alignUpCall address .result) ⌝ }
+    ensures { λ r. ⌜ Leaves (alignUpCall address) r [] (now (result .exit)) ⌝ }
 {
     let aligned = stage2_range::align_up_to_page(address);
     lent_words::put_one_word(result, aligned.value());

@@ -7,7 +7,7 @@ use mathlib.Core.List.{List, List·Memᴰ}
 use lib.Dec.{ltb}
 use lib.ListN.{length, getD, set}
 use Rattle.lists.specs.Lists.{anyOf, firstIndex}
-use Rattle.lists.proofs.Laws.{first-at, first-none, none-first, any-at, replace-at, replace-any, length-replace}
+use Rattle.lists.proofs.Laws.{first-at, first-none, none-first, any-at, replace-at, replace-any, length-replace, cond-all}
 use Rattle.simple_map.specs.declared.OptionItem.{OptionItem}
 use Rattle.simple_map.specs.declared.OptionItem.the-variants.{None, Some}
 use Rattle.simple_map.specs.declared.Place.{Place}
@@ -16,6 +16,7 @@ use Rattle.simple_map.specs.declared.Lookup.the-variants.{Nothing}
 use Rattle.simple_map.specs.declared.Insertion.the-variants.{Accepted, CapacityExceeded}
 use Rattle.simple_map.specs.declared.SuspendCoreData.{SuspendCoreData}
 use Rattle.simple_map.specs.Map.{hasKey, itemValue, isFree, taken, holdsKey, freePlace, without, hasRoom, valueOf, getItem, insertItem, insertNumber}
+use Rattle.simple_map.specs.declared.Inserted.{Inserted}
 
 -- the first item with the key, by its place
 pub get-at : (map : SimpleMap) (key : ℕ)
@@ -82,3 +83,10 @@ module _ (map : SimpleMap) (key : ℕ) (value : SuspendCoreData) where
   pub room-accepted : hasRoom map key ≡ true → insertNumber (insertItem map key value .answer) ≡ 0
   unfolding insertItem
   room-accepted e = rw e
+
+-- an insertion that is refused leaves the map
+pub insert-refused : (map : SimpleMap) (key : ℕ) (value : SuspendCoreData) → (insertNumber (insertItem map key value .answer) ≡ 0 → ⊥)
+    → insertItem map key value .map ≡ map
+unfolding insertItem
+insert-refused map key value =
+    cond-all (λ (i : Inserted). (insertNumber (i .answer) ≡ 0 → ⊥) → i .map ≡ map) (hasRoom map key) _ _ (λ h. absurd (h refl)) (λ h. refl)

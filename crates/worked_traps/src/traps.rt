@@ -47,7 +47,8 @@ fn found_core(cores: [Core; 8]) {
 }
 
 fn found_trap(trapped: Trapped) {
-    let answer = trapped.answer;
+    let result = trapped.result;
+    let answer = result.answer;
     let cores = trapped.cores;
     number(answer.number());
     number(answer.kind());

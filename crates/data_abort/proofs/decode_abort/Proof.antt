@@ -1,7 +1,7 @@
 use native.Mathlib.Omega.{arith}
 use borrow.Author.Needs.{needs}
 use lib.Bits.{mask-lt}
-use Rattle.memory_access.proofs.Laws.{low}
+use Rattle.bits.proofs.Laws.{low}
 use Rattle.data_abort.proofs.decode_abort.Statement.{statement}
 use Rattle.data_abort.proofs.decode_abort.Tie as tie
 

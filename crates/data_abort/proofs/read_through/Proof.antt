@@ -6,9 +6,6 @@ use Rattle.data_abort.proofs.read_through.Tie as tie
 enum-told : tie.Need-enum-told
 enum-told c = search needs
 
-unhandled-requires : tie.Need-unhandled-requires
-unhandled-requires c κs = search needs
-
 enum-told-2 : tie.Need-enum-told-2
 enum-told-2 c = search needs
 
@@ -24,12 +21,9 @@ extend-read-result-requires c κs = search needs
 enum-told-3 : tie.Need-enum-told-3
 enum-told-3 c = search needs
 
-unhandled-requires-2 : tie.Need-unhandled-requires-2
-unhandled-requires-2 c κs = search needs
-
 returns : tie.Need-returns
 unfolding through
-returns c = rw (c .unhandled .ensures, c .before .enum-told .given .1)
+returns c = rw (c .enum-told .given .1)
 
 returns-2 : tie.Need-returns-2
 unfolding through
@@ -43,26 +37,18 @@ returns-2 c =
 
 returns-3 : tie.Need-returns-3
 unfolding through
-returns-3 c =
-    rw (
-      c .unhandled2 .ensures,
-      c .before .before .before .before .enum-told2 .given .1,
-      ← c .before .before .before .read-filtered-mmio .ensures,
-      c .before .enum-told3 .given .1,
-    )
+returns-3 c = rw (c .before .before .before .enum-told2 .given .1, ← c .before .before .read-filtered-mmio .ensures, c .enum-told3 .given .1)
 
 pub read-through-spec : {M : Type 1} → statement M
 read-through-spec =
     tie.close
     (tie.spec
     enum-told
-    unhandled-requires
     enum-told-2
     read-filtered-mmio-requires
     enum-known-result
     extend-read-result-requires
     enum-told-3
-    unhandled-requires-2
     returns
     returns-2
     returns-3)

@@ -1,5 +1,6 @@
 use native.Mathlib.Omega.{arith}
-use Rattle.data_abort.proofs.Laws.{ec-replaced}
+use lib.Dec.{lit<}
+use Rattle.bits.proofs.Laws.{bits-replaced}
 use borrow.Author.Needs.{needs}
 use Rattle.data_abort.proofs.same_el_syndrome.Statement.{statement}
 use Rattle.data_abort.proofs.same_el_syndrome.Tie as tie
@@ -8,7 +9,7 @@ sub-result : tie.Need-sub-result
 sub-result c = search needs
 
 returns : tie.Need-returns
-returns c = ec-replaced (c .args .esr) (omega arith)
+returns c = bits-replaced 32 6 26 (c .args .esr) 0x25 (omega arith) (lit< tt)
 
 pub same-el-syndrome-spec : {M : Type 1} → statement M
 same-el-syndrome-spec = tie.close (tie.spec sub-result returns)

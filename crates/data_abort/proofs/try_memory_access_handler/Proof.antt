@@ -1,5 +1,6 @@
+use mathlib.Core.Path.{sym, _∙_}
+use Rattle.data_abort.proofs.Laws.{access-tried, nothing-tried}
 use borrow.Author.Needs.{needs}
-use Rattle.data_abort.specs.Outcome.{tryMemoryAccess}
 use Rattle.data_abort.proofs.try_memory_access_handler.Statement.{statement}
 use Rattle.data_abort.proofs.try_memory_access_handler.Tie as tie
 
@@ -24,24 +25,14 @@ emulate-access-requires c κs = search needs
 enum-told : tie.Need-enum-told
 enum-told c = search needs
 
-unhandled-requires : tie.Need-unhandled-requires
-unhandled-requires c κs = search needs
-
 returns : tie.Need-returns
-unfolding tryMemoryAccess
 returns c =
-    rw (
-      c .emulate-access .ensures,
-      c .before .value .ensures,
-      c .before .before .read-gpr .ensures,
-      c .before .before .before .find-region .ensures,
-      ← c .before .before .before .before .before .before .before .before .decode-abort .ensures,
-      c .before .before .before .before .before .before .access .given .1,
-    )
+    let decoded = c .before .before .before .before .before .before .before .before in
+    rw (c .emulate-access .ensures, c .before .value .ensures, c .before .before .read-gpr .ensures, c .before .before .before .find-region .ensures)
+    (access-tried _ _ _ _ _ (sym (decoded .decode-abort .ensures) ∙ c .before .before .before .before .before .before .access .given .1))
 
 returns-2 : tie.Need-returns-2
-unfolding tryMemoryAccess
-returns-2 c = rw (c .unhandled .ensures, ← c .before .before .before .decode-abort .ensures, c .before .enum-told .given .1)
+returns-2 c = nothing-tried _ _ _ _ (sym (c .before .before .decode-abort .ensures) ∙ c .enum-told .given .1)
 
 pub try-memory-access-handler-spec : {M : Type 1} → statement M
 try-memory-access-handler-spec =
@@ -54,6 +45,5 @@ try-memory-access-handler-spec =
     value-requires
     emulate-access-requires
     enum-told
-    unhandled-requires
     returns
     returns-2)

@@ -15,9 +15,6 @@ stored c = rw (← c .before .store-value .ensures) (c .write-filtered-mmio .ens
 enum-told : tie.Need-enum-told
 enum-told c = search needs
 
-unhandled-requires : tie.Need-unhandled-requires
-unhandled-requires c κs = search needs
-
 enum-told-2 : tie.Need-enum-told-2
 enum-told-2 c = search needs
 
@@ -33,44 +30,28 @@ enum-told-3 c = search needs
 enum-told-4 : tie.Need-enum-told-4
 enum-told-4 c = search needs
 
-unhandled-requires-2 : tie.Need-unhandled-requires-2
-unhandled-requires-2 c κs = search needs
-
 returns : tie.Need-returns
 unfolding through
-returns c = rw (c .unhandled .ensures, c .before .enum-told .given .1)
+returns c = rw (c .enum-told .given .1)
 
 returns-2 : tie.Need-returns-2
 unfolding through
-returns-2 c =
-    rw (
-      c .before .before .before .before .enum-told2 .given .1,
-      ← stored (c .before .before),
-      c .enum-told3 .given .1,
-    )
+returns-2 c = rw (c .before .before .before .before .enum-told2 .given .1, ← stored (c .before .before), c .enum-told3 .given .1)
 
 returns-3 : tie.Need-returns-3
 unfolding through
-returns-3 c =
-    rw (
-      c .unhandled2 .ensures,
-      c .before .before .before .before .before .enum-told2 .given .1,
-      ← stored (c .before .before .before),
-      c .before .enum-told4 .given .1,
-    )
+returns-3 c = rw (c .before .before .before .before .enum-told2 .given .1, ← stored (c .before .before), c .enum-told4 .given .1)
 
 pub write-through-spec : {M : Type 1} → statement M
 write-through-spec =
     tie.close
     (tie.spec
     enum-told
-    unhandled-requires
     enum-told-2
     store-value-requires
     write-filtered-mmio-requires
     enum-told-3
     enum-told-4
-    unhandled-requires-2
     returns
     returns-2
     returns-3)

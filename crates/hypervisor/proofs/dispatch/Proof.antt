@@ -30,17 +30,11 @@ enum-told-3 c = search needs
 handle-data-abort-requires : tie.Need-handle-data-abort-requires
 handle-data-abort-requires c κs = search needs
 
-abort-answer-requires : tie.Need-abort-answer-requires
-abort-answer-requires c κs = search needs
-
-without-values-requires : tie.Need-without-values-requires
-without-values-requires c κs = search needs
-
 enum-told-4 : tie.Need-enum-told-4
 enum-told-4 c = search needs
 
-refuse-requires : tie.Need-refuse-requires
-refuse-requires c κs = search needs
+refused-requires : tie.Need-refused-requires
+refused-requires c κs = search needs
 
 returns : tie.Need-returns
 unfolding byClass
@@ -64,18 +58,11 @@ returns-2 c =
 
 returns-3 : tie.Need-returns-3
 unfolding byClass
-returns-3 c =
-    rw (
-      c .without-values .ensures,
-      c .before .abort-answer .ensures,
-      c .before .before .before .handle-data-abort .ensures,
-      ← c .before .before .before .before .before .before .exception-class .ensures,
-      c .before .before .before .before .enum-told3 .given .1,
-    )
+returns-3 c = rw (c .handle-data-abort .ensures, ← c .before .before .before .exception-class .ensures, c .before .enum-told3 .given .1)
 
 returns-4 : tie.Need-returns-4
 unfolding byClass
-returns-4 c = rw (c .refuse .ensures, ← c .before .before .before .exception-class .ensures, c .before .enum-told4 .given .1)
+returns-4 c = rw (c .refused .ensures, ← c .before .before .before .exception-class .ensures, c .before .enum-told4 .given .1)
 
 pub dispatch-spec : {M : Type 1} → statement M
 dispatch-spec =
@@ -90,10 +77,8 @@ dispatch-spec =
     forwarded-requires-2
     enum-told-3
     handle-data-abort-requires
-    abort-answer-requires
-    without-values-requires
     enum-told-4
-    refuse-requires
+    refused-requires
     returns
     returns-2
     returns-3

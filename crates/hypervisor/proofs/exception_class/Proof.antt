@@ -1,5 +1,5 @@
 use borrow.Author.Tests.{ne-eqb}
-use Rattle.memory_access.proofs.Laws.{field}
+use Rattle.bits.proofs.Laws.{field}
 use Rattle.hypervisor.specs.Trap.{exceptionClass}
 use Rattle.hypervisor.proofs.exception_class.Statement.{statement}
 use Rattle.hypervisor.proofs.exception_class.Tie as tie

@@ -12,8 +12,8 @@ dispatch-requires c κs = search needs
 enum-told-2 : tie.Need-enum-told-2
 enum-told-2 c = search needs
 
-refuse-requires : tie.Need-refuse-requires
-refuse-requires c κs = search needs
+refused-requires : tie.Need-refused-requires
+refused-requires c κs = search needs
 
 returns : tie.Need-returns
 unfolding handleSyncLower
@@ -21,8 +21,8 @@ returns c = rw (c .dispatch .ensures, c .before .enum-told .given .1)
 
 returns-2 : tie.Need-returns-2
 unfolding handleSyncLower
-returns-2 c = rw (c .refuse .ensures, c .before .enum-told2 .given .1)
+returns-2 c = rw (c .refused .ensures, c .before .enum-told2 .given .1)
 
 pub handle-sync-lower-spec : {M : Type 1} → statement M
 handle-sync-lower-spec =
-    tie.close (tie.spec enum-told dispatch-requires enum-told-2 refuse-requires returns returns-2)
+    tie.close (tie.spec enum-told dispatch-requires enum-told-2 refused-requires returns returns-2)

@@ -1,5 +1,10 @@
+use mathlib.Core.Path.{_≡_}
+use lib.ListN.{length}
+use native.Mathlib.Omega.{arith}
 use borrow.Author.Tests.{le-leb, lt-leb}
-use Rattle.hypervisor.specs.Cores.{noCore, onCore, replyOn}
+use Rattle.lists.proofs.Laws.{getD-any}
+use Rattle.exceptions.specs.Registers.{freshCore}
+use Rattle.hypervisor.specs.Cores.{onCore, replyOn}
 use borrow.Author.Needs.{needs}
 use Rattle.hypervisor.proofs.reply.Statement.{statement}
 use Rattle.hypervisor.proofs.reply.Tie as tie
@@ -20,20 +25,22 @@ array-copy-out-one c = search needs
 reply-core-requires : tie.Need-reply-core-requires
 reply-core-requires c κs = search needs
 
-reply-answer-requires : tie.Need-reply-answer-requires
-reply-answer-requires c κs = search needs
-
 place-requires : tie.Need-place-requires
 place-requires c κs = search needs
 
+places : (c : tie.Start) → length (c .args .t1) ≡ 8
+places c = search needs
+
 returns-2 : tie.Need-returns-2
-unfolding onCore replyOn noCore
+unfolding onCore replyOn
 returns-2 c =
+    let start = c .before .before .before .before in
+    let full = places start in
     rw (
       c .place .ensures,
-      c .before .reply-answer .ensures,
-      c .before .before .before .reply-core .ensures,
-      lt-leb _ _ (c .before .before .before .before .before .if1 .left),
+      c .before .reply-core .ensures,
+      getD-any (start .args .t1) (start .args .core) _ freshCore (omega arith),
+      lt-leb _ _ (c .before .before .before .if1 .left),
     )
 
 pub reply-spec : {M : Type 1} → statement M
@@ -45,6 +52,5 @@ reply-spec =
     mul-one
     array-copy-out-one
     reply-core-requires
-    reply-answer-requires
     place-requires
     returns-2)

@@ -6,7 +6,7 @@ use Rattle.lists.proofs.Laws.{cond-map}
 use Rattle.lent_words.specs.Words.{wordAt}
 use Rattle.exceptions.specs.declared.Core.{Core}
 use Rattle.exceptions.specs.Registers.{freshCore}
-use Rattle.lent_cores.specs.Layout.{waitByCode, coreAt}
+use Rattle.lent_cores.specs.Layout.{waitByCode, coreAt, coreLength, waitWord}
 use Rattle.lent_core.proofs.InPlace.{of-core}
 use Rattle.lent_core.proofs.get_wait.Statement.{statement}
 use Rattle.lent_core.proofs.get_wait.Tie as tie
@@ -22,7 +22,7 @@ unfolding freshCore coreAt waitByCode
 returns c = let a = c .before .before .args in
     c .wait-of .ensures
     ∙ ap waitByCode (c .before .get-at .ensures)
-    ∙ cond-map waitByCode (ltb 7 (a .core)) 0 (wordAt (a .cores .now) (38 * a .core + 37))
+    ∙ cond-map waitByCode (ltb 7 (a .core)) 0 (wordAt (a .cores .now) (coreLength * a .core + waitWord))
     ∙ sym (of-core (λ (one : Core). one .wait) (a .cores .now) (a .core))
 
 pub get-wait-spec : {M : Type 1} → statement M

@@ -1,10 +1,9 @@
 use borrow.Author.Needs.{needs}
-use Prim.Native.Nat.{_+_, _%_, _^_}
 use mathlib.Core.Path.{refl}
 use mathlib.Core.List.{[], _∷_}
 use native.Mathlib.Omega.{arith}
-use Rattle.exceptions.specs.Registers.{advancePc}
-use Rattle.lent_cores.specs.Layout.{coreAt}
+use Rattle.exceptions.specs.Registers.{advancePc, nextInstruction}
+use Rattle.lent_cores.specs.Layout.{coreAt, elrWord}
 use Rattle.lent_core.proofs.InPlace.{any-put}
 use Rattle.lent_core.proofs.put_advanced.Statement.{statement}
 use Rattle.lent_core.proofs.put_advanced.Tie as tie
@@ -23,7 +22,7 @@ unfolding advancePc coreAt
 returns c = let s = c .before .before .before .before in
     let a = s .before .before .before .args in
     rw (c .put-past .ensures, c .before .before .get-elr .ensures)
-    (any-put (a .cores .now) (a .core) (λ one. (31, (one .elr + 4) % 2 ^ 64) ∷ []) advancePc (s .are-bytes .ensures) (omega arith, tt) refl)
+    (any-put (a .cores .now) (a .core) (λ one. (elrWord, nextInstruction (one .elr)) ∷ []) advancePc (s .are-bytes .ensures) (omega arith, tt) refl)
 
 pub put-advanced-spec : {M : Type 1} → statement M
 put-advanced-spec = tie.close (tie.spec are-bytes-requires get-elr-requires put-past-requires returns)

@@ -1,19 +1,23 @@
 use native.Mathlib.Omega.{arith}
 use borrow.Author.Needs.{needs}
 use Prim.Native.Nat.{_+_, _-_}
-use mathlib.Core.Path.{refl, ap, _∙_}
-use mathlib.Core.List.{[], _∷_}
+use mathlib.Core.Path.{refl, _∙_}
+use mathlib.Core.List.{[]}
+use Rattle.core_answers.specs.Answers.{forwardedLength, resultWords}
 use Rattle.lent_words.specs.Words.{withWord}
 use Rattle.lent_words.proofs.Words.{written-whole, Stored, stored-next, stored-done, store-later}
-use Rattle.lent_core.proofs.InPlace.{firstValues, length-first}
+use Rattle.lent_core.proofs.InPlace.{handedOut, length-values}
 use Rattle.lent_core.proofs.put_forwarded.Statement.{statement}
 use Rattle.lent_core.proofs.put_forwarded.Tie as tie
 
 abbrev Inv-loop : tie.InvT-loop
-Inv-loop result₀ kind cores core count i₀ result i = Stored (λ b j w. withWord b (j + 1) w) result₀ (firstValues cores core count) result i
+Inv-loop result₀ recipient cores core i₀ result i = Stored (λ b j w. withWord b (j + 1) w) result₀ (handedOut cores core recipient .values) result i
 
 abbrev μ-loop : tie.MeasureT-loop
-μ-loop result₀ kind cores core count i₀ result i = 18 - i
+μ-loop result₀ recipient cores core i₀ result i = forwardedLength - i
+
+kind-requires : tie.Need-kind-requires Inv-loop μ-loop
+kind-requires c κs = search needs
 
 put-word-requires : tie.Need-put-word-requires Inv-loop μ-loop
 put-word-requires c κs = search needs
@@ -24,8 +28,8 @@ loop-holds c = record { within = omega arith; done = refl }
 add-put-word : tie.Need-add-put-word Inv-loop μ-loop
 add-put-word c = omega arith
 
-first-at-requires : tie.Need-first-at-requires Inv-loop μ-loop
-first-at-requires c κs = omega arith
+forwarded-at-requires : tie.Need-forwarded-at-requires Inv-loop μ-loop
+forwarded-at-requires c κs = omega arith
 
 put-word-requires-2 : tie.Need-put-word-requires-2 Inv-loop μ-loop
 put-word-requires-2 c κs = omega arith
@@ -38,18 +42,18 @@ loop-less c = omega arith
 
 loop-again : tie.Need-loop-again Inv-loop μ-loop
 loop-again c =
-    let a = c .before .before .before .before .before .before .before .args in
-    let fits = length-first (a .cores .now) (a .core) (a .count) in
-    stored-next (c .before .before .before .before .loop .inv) (omega (arith, fits)) 0 _ (rw (← c .before .first-at .ensures) (c .put-word2 .ensures))
+    let a = c .before .before .before .before .before .before .before .before .args in
+    let fits = length-values (a .cores .now) (a .core) (a .recipient) in
+    stored-next (c .before .before .before .before .loop .inv) (omega (arith, fits)) 0 _ (rw (← c .before .forwarded-at .ensures) (c .put-word2 .ensures))
 
 returns : tie.Need-returns Inv-loop μ-loop
 returns c =
-    let a = c .before .before .before .before .args in
-    let first = firstValues (a .cores .now) (a .core) (a .count) in
-    let fits = length-first (a .cores .now) (a .core) (a .count) in
+    let a = c .before .before .before .before .before .args in
+    let result = handedOut (a .cores .now) (a .core) (a .recipient) in
+    let fits = length-values (a .cores .now) (a .core) (a .recipient) in
     stored-done (c .before .loop .inv) (omega (arith, fits))
-    ∙ store-later withWord _ 0 first
-    ∙ rw (c .before .before .put-word .ensures) (written-whole (a .kind ∷ first) [] _ 0 refl (omega (arith, fits)))
+    ∙ store-later withWord _ 0 (result .values)
+    ∙ rw (c .before .before .put-word .ensures, c .before .before .before .kind .ensures) (written-whole (resultWords result) [] _ 0 refl (omega (arith, fits)))
 
 pub put-forwarded-spec : {M : Type 1} → statement M
 put-forwarded-spec =
@@ -57,10 +61,11 @@ put-forwarded-spec =
     (tie.spec
     Inv-loop
     μ-loop
+    kind-requires
     put-word-requires
     loop-holds
     add-put-word
-    first-at-requires
+    forwarded-at-requires
     put-word-requires-2
     add-i
     loop-less

@@ -4,7 +4,7 @@ use mathlib.Core.List.{[], _∷_}
 use native.Mathlib.Omega.{arith}
 use borrow.Author.Tests.{lt-ltb, le-ltb}
 use Rattle.exceptions.specs.Registers.{withReturn}
-use Rattle.lent_cores.specs.Layout.{coreAt}
+use Rattle.lent_cores.specs.Layout.{coreAt, elrWord, spsrWord, elrEl1Word, spsrEl1Word, farEl1Word, esrEl1Word}
 use Rattle.lent_core.proofs.InPlace.{core-put}
 use Rattle.lent_core.proofs.put_return.Statement.{statement}
 use Rattle.lent_core.proofs.put_return.Tie as tie
@@ -67,7 +67,7 @@ returns c =
       c .before .before .before .before .before .before .before .before .before .before .put-word .ensures,
     )
     (core-put (a .cores .now) (a .core)
-    (λ one. (31, a .elr) ∷ (32, a .spsr) ∷ (33, el1 .elr) ∷ (34, el1 .spsr) ∷ (35, el1 .far) ∷ (36, el1 .esr) ∷ [])
+    (λ one. (elrWord, a .elr) ∷ (spsrWord, a .spsr) ∷ (elrEl1Word, el1 .elr) ∷ (spsrEl1Word, el1 .spsr) ∷ (farEl1Word, el1 .far) ∷ (esrEl1Word, el1 .esr) ∷ [])
     (λ one. withReturn one (a .elr) (a .spsr) el1)
     (s .are-bytes .ensures) (omega arith) refl (omega arith))
 

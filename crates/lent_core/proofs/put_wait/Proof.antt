@@ -6,9 +6,10 @@ use native.Mathlib.Omega.{arith}
 use borrow.Author.Tests.{lt-ltb, le-ltb}
 use Rattle.lent_words.specs.Words.{wordAt, keptCode}
 use Rattle.forwarded_call.specs.ForwardedCall.{withWait}
-use Rattle.lent_cores.specs.Layout.{waitNumber, coreAt}
+use Rattle.lent_cores.specs.Layout.{waitNumber, coreAt, coreLength, waitWord, waitCodes}
 use Rattle.lent_core.proofs.InPlace.{core-put}
 use Rattle.lent_core.proofs.put_wait.Statement.{statement}
+use lib.ListN.{length}
 use Rattle.lent_core.proofs.put_wait.Tie as tie
 
 are-bytes-requires : tie.Need-are-bytes-requires
@@ -44,7 +45,7 @@ returns c = let s = c .before .before .before .before .before .before .before .b
       c .before .before .before .before .get-word .ensures,
     )
     (core-put (a .cores .now) (a .core)
-    (λ one. (37, keptCode 5 (wordAt (a .cores .now) (38 * a .core + 37)) (waitNumber (a .wait))) ∷ [])
+    (λ one. (waitWord, keptCode (length waitCodes) (wordAt (a .cores .now) (coreLength * a .core + waitWord)) (waitNumber (a .wait))) ∷ [])
     (λ one. withWait one (a .wait))
     (s .are-bytes .ensures) (omega arith) refl (omega arith))
 

@@ -7,7 +7,7 @@ use mathlib.Core.Path.{sym}
 use Prim.Native.Nat.{_*_, _+_}
 use mathlib.Core.List.{[], _∷_, _++_}
 use Rattle.lent_words.specs.Words.{wordAt, keptCode}
-use Rattle.lent_cores.specs.Layout.{withCore, faultWords, waitNumber}
+use Rattle.lent_cores.specs.Layout.{withCore, faultWords, waitNumber, coreLength, waitWord, waitCodes}
 use Rattle.lent_cores.proofs.put_one.Statement.{statement}
 use Rattle.lent_cores.proofs.put_one.Tie as tie
 
@@ -57,7 +57,7 @@ returns : tie.Need-returns
 unfolding withCore
 returns c = let s = c .before .before .before .before .before .before .before .before .before .before .before .before .before .before .before .before .before in
     let a = s .args in
-    let code = keptCode 5 (wordAt (a .cores .now) (38 * a .core + 37)) (waitNumber (a .value .wait)) in
+    let code = keptCode (length waitCodes) (wordAt (a .cores .now) (coreLength * a .core + waitWord)) (waitNumber (a .value .wait)) in
     rw (
       c .put-word3 .ensures,
       c .before .before .put-el1 .ensures,
@@ -68,7 +68,7 @@ returns c = let s = c .before .before .before .before .before .before .before .b
       c .before .before .before .before .before .before .before .before .before .before .before .wait-number .ensures,
       c .before .before .before .before .before .before .before .before .before .before .before .before .get-word .ensures,
     )
-    (sym (words-after (a .cores .now) (38 * a .core) (a .value .x) (a .value .elr ∷ a .value .spsr ∷ (faultWords (a .value .el1) ++ (code ∷ []))) 31 (x-length s)))
+    (sym (words-after (a .cores .now) (coreLength * a .core) (a .value .x) (a .value .elr ∷ a .value .spsr ∷ (faultWords (a .value .el1) ++ (code ∷ []))) 31 (x-length s)))
 
 pub put-one-spec : {M : Type 1} → statement M
 put-one-spec =

@@ -1,20 +1,27 @@
 use native.Mathlib.Omega.{arith}
 use borrow.Author.Needs.{needs}
-use Prim.Native.Nat.{_-_}
-use mathlib.Core.Path.{refl, _∙_}
-use mathlib.Core.List.{[], _∷_}
+use Prim.Native.Nat.{_+_, _-_}
+use mathlib.Core.Path.{_≡_, refl, _∙_}
+use mathlib.Core.List.{[]}
+use lib.ListN.{length}
+use Rattle.lists.proofs.Laws.{length-mapped}
+use Rattle.core_answers.specs.Answers.{forwardedLength, resultWords}
 use Rattle.lent_words.specs.Words.{withWord}
-use Rattle.lent_words.proofs.Words.{written-whole, Stored, stored-next, stored-done}
-use Rattle.lent_words.proofs.Words.{store-later}
-use Prim.Native.Nat.{_+_}
+use Rattle.lent_words.proofs.Words.{written-whole, Stored, stored-next, stored-done, store-later}
 use Rattle.lent_cores.proofs.put_trap_result.Statement.{statement}
 use Rattle.lent_cores.proofs.put_trap_result.Tie as tie
 
 abbrev Inv-loop : tie.InvT-loop
-Inv-loop result₀ kind values i₀ result i = Stored (λ b j w. withWord b (j + 1) w) result₀ values result i
+Inv-loop result₀ values i₀ result i = Stored (λ b j w. withWord b (j + 1) w) result₀ values result i
 
 abbrev μ-loop : tie.MeasureT-loop
-μ-loop result₀ kind values i₀ result i = 18 - i
+μ-loop result₀ values i₀ result i = forwardedLength - i
+
+values-length : (c : tie.Start Inv-loop μ-loop) → length (c .args .trap .values) ≡ forwardedLength
+values-length c = search (length-mapped, needs)
+
+kind-requires : tie.Need-kind-requires Inv-loop μ-loop
+kind-requires c κs = search needs
 
 put-word-requires : tie.Need-put-word-requires Inv-loop μ-loop
 put-word-requires c κs = search needs
@@ -29,7 +36,7 @@ mul-put-word : tie.Need-mul-put-word Inv-loop μ-loop
 mul-put-word c = omega arith
 
 array-read-put-word : tie.Need-array-read-put-word Inv-loop μ-loop
-array-read-put-word c = omega arith
+array-read-put-word c = let long = values-length (c .before .before .before .before .before .before .before) in omega arith
 
 put-word-requires-2 : tie.Need-put-word-requires-2 Inv-loop μ-loop
 put-word-requires-2 c κs = omega arith
@@ -41,13 +48,18 @@ loop-less : tie.Need-loop-less Inv-loop μ-loop
 loop-less c = omega arith
 
 loop-again : tie.Need-loop-again Inv-loop μ-loop
-loop-again c = stored-next (c .before .before .before .loop .inv) (omega arith) 0 _ (c .put-word2 .ensures)
+loop-again c =
+    let long = values-length (c .before .before .before .before .before .before .before .before) in
+    stored-next (c .before .before .before .loop .inv) (omega arith) 0 _ (c .put-word2 .ensures)
 
 returns : tie.Need-returns Inv-loop μ-loop
-returns c = let a = c .before .before .before .before .args in
+returns c =
+    let start = c .before .before .before .before .before .before in
+    let trap = start .args .trap in
+    let long = values-length start in
     stored-done (c .before .loop .inv) (omega arith)
-    ∙ store-later withWord _ 0 (a .t3)
-    ∙ rw (c .before .before .put-word .ensures) (written-whole (a .kind ∷ a .t3) [] _ 0 refl (search needs))
+    ∙ store-later withWord _ 0 (trap .values)
+    ∙ rw (c .before .before .put-word .ensures, c .before .before .before .kind .ensures) (written-whole (resultWords trap) [] _ 0 refl (omega (arith, long)))
 
 pub put-trap-result-spec : {M : Type 1} → statement M
 put-trap-result-spec =
@@ -55,6 +67,7 @@ put-trap-result-spec =
     (tie.spec
     Inv-loop
     μ-loop
+    kind-requires
     put-word-requires
     loop-holds
     add-put-word

@@ -4,13 +4,14 @@ use Rattle.lent_words.proofs.Words.{Read, read-next, read-done}
 use Prim.Native.Nat.{_-_, _+_}
 use mathlib.Core.Path.{refl}
 use Rattle.lent_reply.proofs.get_values.Statement.{statement}
+use Rattle.hvc_response.specs.Response.{replyLength}
 use Rattle.lent_reply.proofs.get_values.Tie as tie
 
 abbrev Inv-loop : tie.InvT-loop
-Inv-loop values from out₀ i₀ out i = Read (λ j. wordAt values (from + j)) 18 out i
+Inv-loop values from out₀ i₀ out i = Read (λ j. wordAt values (from + j)) replyLength out i
 
 abbrev μ-loop : tie.MeasureT-loop
-μ-loop values from out₀ i₀ out i = 18 - i
+μ-loop values from out₀ i₀ out i = replyLength - i
 
 loop-holds : tie.Need-loop-holds Inv-loop μ-loop
 loop-holds c = record { within = omega arith; long = refl; done = refl }

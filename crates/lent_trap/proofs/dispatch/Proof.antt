@@ -1,7 +1,6 @@
-use borrow.Author.Needs.{needs}
 use mathlib.Core.Path.{refl}
 use Rattle.hypervisor.specs.Trap.{byClass}
-use Rattle.hypervisor.specs.Answers.{answered}
+use borrow.Author.Needs.{needs}
 use Rattle.lent_trap.proofs.dispatch.Statement.{statement}
 use Rattle.lent_trap.proofs.dispatch.Tie as tie
 
@@ -45,7 +44,7 @@ unfolding byClass
 returns-3 c = rw (← c .before .before .before .before .before .exception-class .ensures, c .before .before .before .enum-told3 .given .1) (c .handle-data-abort .ensures)
 
 returns-4 : tie.Need-returns-4
-unfolding byClass answered
+unfolding byClass
 returns-4 c = rw (← c .before .before .before .before .exception-class .ensures, c .before .before .enum-told4 .given .1) (c .answer .ensures .0, refl, c .answer .ensures .1)
 
 pub dispatch-spec : {M : Type 1} → statement M

@@ -1,9 +1,8 @@
 use native.Mathlib.Omega.{arith}
-use borrow.Author.Needs.{needs}
 use mathlib.Core.Path.{refl}
 use Rattle.hypervisor.specs.Trap.{handleSyncLower}
-use Rattle.hypervisor.specs.Answers.{answered}
 use Rattle.lent_trap.proofs.Laws.{trap-none, trap-one}
+use borrow.Author.Needs.{needs}
 use Rattle.lent_trap.proofs.trap.Statement.{statement}
 use Rattle.lent_trap.proofs.trap.Tie as tie
 
@@ -31,7 +30,7 @@ dispatch-requires : tie.Need-dispatch-requires
 dispatch-requires c κs = search needs
 
 returns-2 : tie.Need-returns-2
-unfolding handleSyncLower answered
+unfolding handleSyncLower
 returns-2 c =
     let w = c .before .before .before .before in
     let a = w .before .before .before .args in

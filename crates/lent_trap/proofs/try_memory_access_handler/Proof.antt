@@ -1,10 +1,8 @@
+use mathlib.Core.Path.{sym, _∙_}
+use Rattle.data_abort.proofs.Laws.{access-tried, nothing-tried}
 use borrow.Author.Needs.{needs}
-use Rattle.data_abort.specs.Outcome.{tryMemoryAccess}
 use Rattle.lent_trap.proofs.try_memory_access_handler.Statement.{statement}
 use Rattle.lent_trap.proofs.try_memory_access_handler.Tie as tie
-
-get-counter-requires : tie.Need-get-counter-requires
-get-counter-requires c κs = search needs
 
 decode-abort-requires : tie.Need-decode-abort-requires
 decode-abort-requires c κs = search needs
@@ -28,27 +26,18 @@ enum-told : tie.Need-enum-told
 enum-told c = search needs
 
 returns : tie.Need-returns
-unfolding tryMemoryAccess
 returns c =
-    rw (
-      c .emulate-access .ensures,
-      c .before .value .ensures,
-      c .before .before .get-gpr .ensures,
-      c .before .before .before .find-region .ensures,
-      ← c .before .before .before .before .before .before .before .before .decode-abort .ensures,
-      c .before .before .before .before .before .before .access .given .1,
-      c .before .before .before .before .before .before .before .before .before .get-counter .ensures,
-    )
+    let decoded = c .before .before .before .before .before .before .before .before in
+    rw (c .emulate-access .ensures, c .before .value .ensures, c .before .before .get-gpr .ensures, c .before .before .before .find-region .ensures)
+    (access-tried _ _ _ _ _ (sym (decoded .decode-abort .ensures) ∙ c .before .before .before .before .before .before .access .given .1))
 
 returns-2 : tie.Need-returns-2
-unfolding tryMemoryAccess
-returns-2 c = rw (← c .before .before .decode-abort .ensures, c .enum-told .given .1, c .before .before .before .get-counter .ensures)
+returns-2 c = nothing-tried _ _ _ _ (sym (c .before .before .decode-abort .ensures) ∙ c .enum-told .given .1)
 
 pub try-memory-access-handler-spec : {M : Type 1} → statement M
 try-memory-access-handler-spec =
     tie.close
     (tie.spec
-    get-counter-requires
     decode-abort-requires
     enum-known-access
     find-region-requires

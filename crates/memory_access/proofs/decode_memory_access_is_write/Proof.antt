@@ -1,4 +1,4 @@
-use Rattle.memory_access.proofs.Laws.{bit-test}
+use Rattle.bits.proofs.Laws.{bit-test}
 use Rattle.memory_access.proofs.decode_memory_access_is_write.Statement.{statement}
 use Rattle.memory_access.proofs.decode_memory_access_is_write.Tie as tie
 

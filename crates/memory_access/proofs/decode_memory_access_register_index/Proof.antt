@@ -1,7 +1,7 @@
 use Prim.Native.Nat.{_/_, _^_}
 use native.Mathlib.Omega.{arith}
 use lib.Bits.{mask-lt}
-use Rattle.memory_access.proofs.Laws.{field}
+use Rattle.bits.proofs.Laws.{field}
 use Rattle.memory_access.proofs.decode_memory_access_register_index.Statement.{statement}
 use Rattle.memory_access.proofs.decode_memory_access_register_index.Tie as tie
 

@@ -1,4 +1,5 @@
-use Rattle.memory_access.proofs.Laws.{field, widest}
+use Rattle.bits.proofs.Laws.{field}
+use Rattle.memory_access.proofs.Laws.{widest}
 use Rattle.memory_access.proofs.decode_memory_access_width.Statement.{statement}
 use Rattle.memory_access.proofs.decode_memory_access_width.Tie as tie
 

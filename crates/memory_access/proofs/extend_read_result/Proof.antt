@@ -1,5 +1,5 @@
 use Rattle.memory_access.specs.Transfer.{atRegisterWidth}
-use Rattle.memory_access.proofs.Laws.{low}
+use Rattle.bits.proofs.Laws.{low}
 use borrow.Author.Needs.{needs}
 use Rattle.memory_access.proofs.extend_read_result.Statement.{statement}
 use Rattle.memory_access.proofs.extend_read_result.Tie as tie

@@ -1,4 +1,4 @@
-use Rattle.memory_access.proofs.Laws.{low}
+use Rattle.bits.proofs.Laws.{low}
 use Rattle.memory_access.specs.Syndrome.{bitsOf}
 use borrow.Author.Needs.{needs}
 use Rattle.memory_access.proofs.low_bits.Statement.{statement}

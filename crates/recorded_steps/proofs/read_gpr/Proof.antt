@@ -1,8 +1,11 @@
-use Rattle.hypervisor.specs.Cores.{noCore}
 use native.Mathlib.Omega.{arith}
 use borrow.Author.Tests.{lt-ltb, le-ltb}
 use borrow.Author.Needs.{needs}
 use Rattle.recorded_steps.proofs.read_gpr.Statement.{statement}
+use Rattle.exceptions.specs.Registers.{freshCore}
+use mathlib.Core.Path.{_≡_}
+use lib.ListN.{length}
+use Rattle.lists.proofs.Laws.{getD-any}
 use Rattle.recorded_steps.proofs.read_gpr.Tie as tie
 
 no-record-requires : tie.Need-no-record-requires
@@ -32,15 +35,19 @@ value-requires c κs = search needs
 expect-requires-2 : tie.Need-expect-requires-2
 expect-requires-2 c κs = search needs
 
+places : (c : tie.Start) → length (c .args .t1) ≡ 8
+places c = search needs
+
 returns-2 : tie.Need-returns-2
-unfolding noCore
 returns-2 c =
+    let start = c .before .before .before .before .before .before .before in
     rw (
       c .expect2 .ensures,
       c .before .value .ensures,
       c .before .before .expect .ensures,
       c .before .before .before .number .ensures,
       c .before .before .before .before .read-gpr .ensures,
+      getD-any (start .args .t1) (start .args .call .a) _ freshCore (omega (arith, places start)),
       lt-ltb (c .before .before .before .before .before .before .before .args .call .a) 8 (omega arith),
     )
 

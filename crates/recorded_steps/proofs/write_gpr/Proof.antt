@@ -1,8 +1,11 @@
-use Rattle.hypervisor.specs.Cores.{noCore}
 use native.Mathlib.Omega.{arith}
 use borrow.Author.Tests.{lt-ltb, le-ltb}
 use borrow.Author.Needs.{needs}
 use Rattle.recorded_steps.proofs.write_gpr.Statement.{statement}
+use Rattle.exceptions.specs.Registers.{freshCore}
+use mathlib.Core.Path.{_≡_}
+use lib.ListN.{length}
+use Rattle.lists.proofs.Laws.{getD-any}
 use Rattle.recorded_steps.proofs.write_gpr.Tie as tie
 
 no-record-requires : tie.Need-no-record-requires
@@ -43,14 +46,18 @@ expect-requires c κs = search needs
 pass-requires-2 : tie.Need-pass-requires-2
 pass-requires-2 c κs = search needs
 
+places : (c : tie.Start) → length (c .args .t1) ≡ 8
+places c = search needs
+
 returns-2 : tie.Need-returns-2
-unfolding noCore
 returns-2 c =
+    let start = c .before .before .before .before .before .before .before in
     rw (
       c .pass2 .ensures,
       c .before .expect .ensures,
       c .before .before .number .ensures,
       c .before .before .before .before .written .ensures,
+      getD-any (start .args .t1) (start .args .call .a) _ freshCore (omega (arith, places start)),
       lt-ltb (c .before .before .before .before .before .before .before .args .call .a) 8 (omega arith),
     )
 

@@ -12,7 +12,7 @@ put-one-word-requires c κs = search needs
 
 returns : tie.Need-returns
 unfolding alignDownCall
-returns c = (refl, rw (c .put-one-word .ensures, c .before .align-down-to-page .ensures))
+returns c = (refl, refl, rw (c .put-one-word .ensures, c .before .align-down-to-page .ensures))
 
 pub ritm-align-down-to-page-spec : {M : Type 1} → statement M
 ritm-align-down-to-page-spec =

@@ -1,6 +1,7 @@
 use borrow.Author.Needs.{needs}
 use Rattle.ritm.specs.Interface.{decodeCall}
 use Rattle.ritm.proofs.ritm_decode.Statement.{statement}
+use mathlib.Core.Path.{refl}
 use Rattle.ritm.proofs.ritm_decode.Tie as tie
 
 decode-requires : tie.Need-decode-requires
@@ -19,7 +20,7 @@ returns : tie.Need-returns
 unfolding decodeCall
 returns c =
     let decoded = c .before .before .before .before .decode .ensures in
-    (rw (c .number .ensures, decoded), rw (c .before .put-six .ensures, c .before .before .values .ensures, decoded))
+    (rw (c .number .ensures, decoded), refl, rw (c .before .put-six .ensures, c .before .before .values .ensures, decoded))
 
 pub ritm-decode-spec : {M : Type 1} → statement M
 ritm-decode-spec =

@@ -1,6 +1,7 @@
 use borrow.Author.Needs.{needs}
 use Rattle.ritm.specs.Interface.{extendCall}
 use Rattle.ritm.proofs.ritm_extend_read_result.Statement.{statement}
+use mathlib.Core.Path.{refl}
 use Rattle.ritm.proofs.ritm_extend_read_result.Tie as tie
 
 decode-requires : tie.Need-decode-requires
@@ -28,12 +29,13 @@ returns : tie.Need-returns
 unfolding extendCall
 returns c = (
   rw (← c .before .before .before .before .before .before .decode .ensures, c .before .before .before .before .access .given .1),
+  refl,
   rw (c .put-one-word .ensures, c .before .extend-read-result .ensures, ← c .before .before .before .before .before .before .decode .ensures, c .before .before .before .before .access .given .1),
 )
 
 returns-2 : tie.Need-returns-2
 unfolding extendCall
-returns-2 c = (rw (c .number .ensures, ← c .before .before .before .before .before .decode .ensures, c .before .before .before .enum-told .given .1), rw (c .before .put-one-word2 .ensures, ← c .before .before .before .before .before .decode .ensures, c .before .before .before .enum-told .given .1))
+returns-2 c = (rw (c .number .ensures, ← c .before .before .before .before .before .decode .ensures, c .before .before .before .enum-told .given .1), refl, rw (c .before .put-one-word2 .ensures, ← c .before .before .before .before .before .decode .ensures, c .before .before .before .enum-told .given .1))
 
 pub ritm-extend-read-result-spec : {M : Type 1} → statement M
 ritm-extend-read-result-spec =

@@ -1,7 +1,6 @@
-use borrow.Author.Needs.{needs}
 use mir.Syntax.{w32}
 use mir.ValLaws.{toZ-ofZ}
-use Rattle.ritm.proofs.Cores.{reply-any}
+use borrow.Author.Needs.{needs}
 use Rattle.ritm.proofs.ritm_reply.Statement.{statement}
 use Rattle.ritm.proofs.ritm_reply.Tie as tie
 
@@ -9,10 +8,7 @@ reply-requires : tie.Need-reply-requires
 reply-requires c κs = search needs
 
 returns : tie.Need-returns
-returns c =
-    let start = c .before .before in
-    let a = start .args in
-    rw (reply-any (a .cores .now) (a .core) (a .kind) (a .values .now) (a .error)) (rw (toZ-ofZ w32 (a .error) (start .fits .error)) at (c .reply .ensures))
+returns c = let start = c .before .before in rw (toZ-ofZ w32 (start .args .error) (start .fits .error)) at (c .reply .ensures)
 
 pub ritm-reply-spec : {M : Type 1} → statement M
 ritm-reply-spec = tie.close (tie.spec reply-requires returns)

@@ -3,12 +3,12 @@ use borrow.Author.Needs.{needs}
 use Rattle.exceptions.proofs.Core.advance_pc.Statement.{statement}
 use Rattle.exceptions.proofs.Core.advance_pc.Tie as tie
 
-wrapping-add-u64-requires : tie.Need-wrapping-add-u64-requires
-wrapping-add-u64-requires c κs = search needs
+next-instruction-requires : tie.Need-next-instruction-requires
+next-instruction-requires c κs = search needs
 
 returns : tie.Need-returns
 unfolding advancePc
-returns c = rw (c .wrapping-add-u64 .ensures)
+returns c = rw (c .next-instruction .ensures)
 
 pub advance-pc-spec : {M : Type 1} → statement M
-advance-pc-spec = tie.close (tie.spec wrapping-add-u64-requires returns)
+advance-pc-spec = tie.close (tie.spec next-instruction-requires returns)

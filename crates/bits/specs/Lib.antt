@@ -1,0 +1,2 @@
+-- What definitions say of a number's bits.
+pub mod Bits

@@ -1,0 +1,2 @@
+-- What the contracts of `core_answers` cite.
+pub mod Answers

@@ -1,0 +1,2 @@
+-- What the contracts of `lent_core` cite.
+pub mod Calls
