@@ -87,8 +87,8 @@ impl State for PortCores {
     }
 
     fn words(&self) -> Vec<u64> {
-        let mut held = lent_words::get::<{ CORE_WORDS - 1 }>(&self.cores, self.core as usize * CORE_WORDS).to_vec();
-        held.extend(lent_words::get::<1>(&self.cores, COUNTER));
+        let mut held = words::get::<{ CORE_WORDS - 1 }>(&self.cores, self.core as usize * CORE_WORDS).to_vec();
+        held.extend(words::get::<1>(&self.cores, COUNTER));
         held
     }
 }
@@ -195,9 +195,9 @@ impl Guest {
             values: [0; ffi::VALUES_SIZE],
             registers: [0; ffi::REGISTERS_SIZE],
         };
-        lent_words::put(&mut state.values, &self.reply.values);
-        lent_words::put(&mut state.registers, &self.core.x);
-        lent_words::put(&mut state.registers[8 * 31..], &[self.core.elr, self.core.spsr]);
+        words::put(&mut state.values, &self.reply.values);
+        words::put(&mut state.registers, &self.core.x);
+        words::put(&mut state.registers[8 * 31..], &[self.core.elr, self.core.spsr]);
         assert_eq!(ffi::ritm_fresh_cores(&mut state.cores), 0, "fresh cores");
         assert_eq!(ffi::ritm_save(&mut state.cores, core, &state.registers), 0, "a fresh core takes a save");
         state
@@ -238,7 +238,7 @@ fn reply_in(state: &mut PortCores, function: ReplyFunction) -> u64 {
 
 /// The number of the port's answer, if its trap was of the kind that the case says.
 fn number_of_trap(state: &PortCores, number: u64) -> Vec<u64> {
-    assert_eq!(lent_words::get(&state.trapped, 0), [state.expected], "the trap is of the kind that the case says");
+    assert_eq!(words::get(&state.trapped, 0), [state.expected], "the trap is of the kind that the case says");
     vec![number]
 }
 
