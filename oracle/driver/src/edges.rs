@@ -1,5 +1,6 @@
 //! The edges that lists must meet, counted where RITM's Rust answers.
 
+use crate::asked::Asked;
 use crate::call::Call;
 use crate::generate;
 use crate::ritm_rust::RitmRust;
@@ -81,19 +82,18 @@ fn of_list(met: &mut BTreeSet<Edge>, number: u64) {
     for call in &list.calls {
         let core = call.core().filter(|core| *core < 8).unwrap_or_default() as usize;
         let (before, counter) = (rust.cores[core], rust.oracle.counter());
-        let asked = rust.outside(call).is_none();
-        let answer = asked.then(|| rust.take(call));
+        let answer = Asked::of(call, &mut rust).answer(&mut rust);
         let after = rust.cores[core];
         match *call {
             Call::Trap { trap, .. } => {
                 let found = rust.oracle.find(trap.fipa << 12 | trap.far & 0xFFF).is_some();
-                of_trap(met, trap, answer.map_or(0, |answer| answer.words()[0]), &before, &after, found);
+                of_trap(met, trap, answer.words()[0], &before, &after, found);
             }
-            Call::Reply { .. } if asked && after.elr < before.elr => {
+            Call::Reply { .. } if after.elr < before.elr => {
                 met.insert(Edge::ElrWraps(0));
             }
             Call::Allow { base, size, .. } if base.wrapping_add(size).wrapping_add(4096) <= 4096 && size > 0 => {
-                met.extend(answer.map(|answer| Edge::LastPage(answer.number)));
+                met.insert(Edge::LastPage(answer.number));
             }
             _ => {}
         }
