@@ -28,6 +28,9 @@ const LOAD: u64 = 0x24 << 26 | 1 << 24 | 3 << 22 | (RT as u64) << 16 | 1 << 15;
 const STORE: u64 = LOAD | 1 << 6;
 const VBAR: u64 = 0x4021_0800;
 
+/// SPSR_EL2: the guest is at EL1, on its own stack, with all exceptions masked, as an injected abort leaves it.
+const SPSR: u64 = 0x3c5;
+
 // Kinds of a trap's result.
 const LOAD_HANDLED: u64 = 1;
 const STORE_HANDLED: u64 = 2;
@@ -171,7 +174,7 @@ impl Guest {
     /// A guest that accesses an address.
     fn accessing(esr: u64, regions: u64, ipa: u64, kind: u64) -> Self {
         let mut core = Core { x: array::from_fn(|k| 0x100 + k as u64), elr: 0x4020_0000, ..Core::default() };
-        (core.x[RT], core.spsr) = (STORED, 0x3c5);
+        (core.x[RT], core.spsr) = (STORED, SPSR);
         let trap = Trap { esr, fipa: ipa >> 12, far: ipa & 0xfff, vbar: VBAR };
         Self { core, trap, regions, kind, reply: GivenReply::new(0, &[]) }
     }

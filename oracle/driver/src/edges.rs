@@ -22,6 +22,8 @@ enum Edge {
     /// ELR wrapped at this kind of trap; at 0 with the reply to an SMC.
     ElrWraps(u64),
     VbarWraps,
+    /// An abort injected where the saved SPSR had this mode.
+    Mode(u64),
     CounterWraps,
     /// A call of this class with x0 by the limits of the firmware's calls.
     Function(u64, u64),
@@ -48,6 +50,7 @@ fn expected() -> BTreeSet<Edge> {
     edges.extend([29, 30, 31].into_iter().flat_map(|rt| [Edge::Register(1, rt), Edge::Register(3, rt)]));
     edges.extend([Edge::Register(2, 29), Edge::Register(2, 30)]);
     edges.extend([0, 1, 2].map(Edge::ElrWraps));
+    edges.extend((0..32).map(Edge::Mode));
     edges.extend([Edge::VbarWraps, Edge::CounterWraps, Edge::Ranges(32), Edge::Regions(16)]);
     edges.extend([0x16, 0x17].into_iter().flat_map(|class| limits().map(move |x0| Edge::Function(class, x0))));
     edges.extend([Edge::LastPage(0), Edge::LastPage(4)]);
@@ -67,6 +70,9 @@ fn of_trap(met: &mut BTreeSet<Edge>, trap: Trap, kind: u64, before: &Core, after
     }
     if matches!(kind, 1 | 2) && after.elr < before.elr {
         met.insert(Edge::ElrWraps(kind));
+    }
+    if kind == 3 {
+        met.insert(Edge::Mode(before.spsr & 0x1F));
     }
     if kind == 3 && after.elr < trap.vbar {
         met.insert(Edge::VbarWraps);

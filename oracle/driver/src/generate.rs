@@ -12,6 +12,13 @@ const PAGE: u64 = 4096;
 const STRETCHES: [u64; 3] = [0, 0xF000, 1 << 20];
 const PAGES: u64 = 1 << 52;
 
+/// Modes from which a trap may come, SPSR's bits 4:0: EL0, EL1 on EL0's stack, EL1 on its own; and the bit that those of
+/// AArch32 have.
+const EL0T: u64 = 0;
+const EL1T: u64 = 4;
+const EL1H: u64 = 5;
+const AARCH32: u64 = 0x10;
+
 /// What a list is mostly about.
 #[derive(Clone, Copy, Eq, PartialEq)]
 enum Theme {
@@ -309,14 +316,28 @@ impl Generator {
 
     fn save_core(&mut self, core: u64) {
         let mut registers = [0; 33];
-        for register in &mut registers {
+        for register in &mut registers[..32] {
             *register = self.word();
         }
+        registers[32] = self.spsr();
         // ELR where an instruction's length takes it past 2^64.
         if self.random.once_in(4) {
             registers[31] = 0u64.wrapping_sub(self.random.below(6));
         }
         self.calls.push(Call::Save { core, registers });
+    }
+
+    /// Any word, often with the mode of a guest at EL1.
+    fn spsr(&mut self) -> u64 {
+        let word = self.word();
+        let mode = match self.random.below(8) {
+            0..=2 => EL1H,
+            3 => EL1T,
+            4 => EL0T,
+            5 => AARCH32 | self.random.below(16),
+            _ => word & 0x1F,
+        };
+        word & !0x1F | mode
     }
 
     /// The bits of an ESR outside of EC and the ISS.
