@@ -45,7 +45,8 @@ impl Asked {
         matches!(self, Self::Ritm { .. })
     }
 
-    /// Asks it, and gives the answer that the port owes.
+    /// Asks it, and gives the answer that the port owes. RITM is left with the state that the port must then have: the
+    /// mirror is made from it, and the next call starts there.
     pub fn answer(&self, rust: &mut RitmRust) -> Answer {
         match self {
             Self::Nothing { due } => Answer::number(*due),

@@ -141,7 +141,7 @@ impl RitmRust {
     /// RITM's trap again, on the core as it now is and with this reply. Its x0 may have been written meanwhile, so the
     /// one that chose the recipient is put back: every reply writes x0.
     fn reply(&mut self, at: usize, reply: Reply) -> Answer {
-        let call = self.forwarded[at].take().expect("a reply to a core that waits for none is outside");
+        let call = self.forwarded[at].take().expect("RITM is asked for a reply where a core waits for one");
         self.cores[at].x[0] = call.x0;
         let answer = self.oracle.trap(&mut self.cores[at], call.trap, reply);
         let firmware = matches!(answer, oracle::Answer::ToFirmware(_));
@@ -171,7 +171,7 @@ fn reply_of_kind(kind: u64, values: &[u64; 18], error: i32) -> Reply {
         2 => Reply::Four([values[0], values[1], values[2], values[3]]),
         3 => Reply::Eighteen(*values),
         4 => Reply::Error(error),
-        _ => unreachable!("a reply of kind {kind} is outside"),
+        _ => unreachable!("RITM is not asked for a reply of kind {kind}"),
     }
 }
 
