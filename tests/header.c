@@ -107,10 +107,11 @@ static uint64_t find_place(const uint64_t *a)
 
 /*
  * The cores. Core 1 takes one trap after a save in which register word k holds SAVED(k), but for x0 where a call is
- * named, and 5, the register of loads and stores, where one is to be stored.
+ * named, and 5, the register of loads and stores, where one is to be stored. SAVED(32), the SPSR, has the mode of EL1 on
+ * its own stack, 5, in bits 4:0.
  */
 
-#define SAVED(k) (UINT64_C(0x1000000) + (k))
+#define SAVED(k) (UINT64_C(0x1000005) + (k))
 #define FIRMWARE_CALL UINT64_C(0x84000000)
 #define VBAR UINT64_C(0x80000)
 #define FAR UINT64_C(0x7654000)

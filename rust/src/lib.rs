@@ -42,6 +42,9 @@ pub use suspend_map::{SuspendCoreData, SuspendMap};
 mod tests {
     use super::*;
 
+    /// The SPSR of a guest at EL1, on its own stack.
+    const EL1H: u64 = 5;
+
     #[test]
     fn refusals_are_the_numbers_from_1_to_20() {
         for number in 1..=20 {
@@ -89,7 +92,7 @@ mod tests {
     #[test]
     fn a_core_reads_back() {
         let mut cores = Cores::new();
-        let registers = Registers { x: core::array::from_fn(|i| i as u64), elr: 31, spsr: 32 };
+        let registers = Registers { x: core::array::from_fn(|i| i as u64), elr: 31, spsr: EL1H };
         cores.save(7, &registers).unwrap();
         assert_eq!(cores.registers(7), Ok(registers));
         assert_eq!(cores.registers(8), Err(Refusal::NoSuchCore));
@@ -105,6 +108,7 @@ mod tests {
     #[test]
     fn an_abort_without_a_region_is_injected() {
         let mut cores = Cores::new();
+        cores.save(0, &Registers { spsr: EL1H, ..Registers::default() }).unwrap();
         let abort = TrapRegisters { esr: 0x93C5_8000, fipa: 0xF000, far: 0x10, vbar: 0x8_0000 };
         assert_eq!(cores.trap(0, &Policy::new(), &abort), Ok(TrapAnswer::AbortInjected));
         assert_eq!(cores.registers(0).unwrap().elr, 0x8_0200);

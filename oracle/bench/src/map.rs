@@ -46,7 +46,7 @@ impl State for PortMap {
     }
 
     fn words(&self) -> Vec<u64> {
-        let places = (0..PLACES).map(|place| lent_words::get::<4>(&self.map, 4 * place));
+        let places = (0..PLACES).map(|place| words::get::<4>(&self.map, 4 * place));
         places.flat_map(|place| if place[0] == 1 { place } else { [0; 4] }).collect()
     }
 }
@@ -125,7 +125,7 @@ pub fn get(count: u64) -> Sides {
         state: PortMap::new(count, key),
         function: ffi::ritm_get as GetFunction,
         call: |state: &mut PortMap, function| function(&state.map, state.key, &mut state.entry),
-        answer: |state, number| [&[number][..], &lent_words::get::<3>(&state.entry, 0)].concat(),
+        answer: |state, number| [&[number][..], &words::get::<3>(&state.entry, 0)].concat(),
     };
     let rust = Call {
         state: RustMap::new(count, key),
@@ -145,7 +145,7 @@ pub fn remove(count: u64) -> Sides {
         state: PortMap::new(count, key),
         function: ffi::ritm_remove as RemoveFunction,
         call: |state: &mut PortMap, function| function(&mut state.map, state.key, &mut state.entry),
-        answer: |state, number| [&[number][..], &lent_words::get::<3>(&state.entry, 0)].concat(),
+        answer: |state, number| [&[number][..], &words::get::<3>(&state.entry, 0)].concat(),
     };
     let rust = Call {
         state: RustMap::new(count, key),

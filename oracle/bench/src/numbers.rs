@@ -67,7 +67,7 @@ pub fn decode() -> Sides {
         state: Numbers::new(LOAD, 0),
         function: ffi::ritm_decode as DecodeFunction,
         call: |state: &mut Numbers, function| function(state.iss, state.fipa, state.far, &mut state.access),
-        answer: |state, number| [&[number][..], &lent_words::get::<6>(&state.access, 0)].concat(),
+        answer: |state, number| [&[number][..], &words::get::<6>(&state.access, 0)].concat(),
     };
     let rust = Call {
         state: Numbers::new(LOAD, 0),
@@ -89,7 +89,7 @@ fn extend_by(iss: u32) -> Sides {
         state: Numbers::new(iss, VALUE),
         function: ffi::ritm_extend_read_result as ExtendFunction,
         call: |state: &mut Numbers, function| function(state.iss, state.number, &mut state.word),
-        answer: |state, number| [[number], lent_words::get(&state.word, 0)].concat(),
+        answer: |state, number| [[number], words::get(&state.word, 0)].concat(),
     };
     let rust = Call {
         state: Numbers::new(iss, VALUE),
@@ -115,7 +115,7 @@ fn align(port: AlignFunction, rust: RustAlign) -> Sides {
         state: Numbers::new(LOAD, IPA),
         function: port,
         call: |state: &mut Numbers, function: AlignFunction| function(state.number, &mut state.word),
-        answer: |state, number| [[number], lent_words::get(&state.word, 0)].concat(),
+        answer: |state, number| [[number], words::get(&state.word, 0)].concat(),
     };
     let rust = Call {
         state: Numbers::new(LOAD, IPA),

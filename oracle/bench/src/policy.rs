@@ -229,7 +229,7 @@ impl State for Search {
 
 /// The result as both sides have it: whether a region was found, its base, and the offset.
 fn found_by_port(state: &PortSearch) -> [u64; 3] {
-    match lent_words::get(&state.found, 0) {
+    match words::get(&state.found, 0) {
         [1, index, offset] => {
             let region = Policy::from_bytes(*state.policy).regions().nth(index as usize).expect("a region is there");
             [1, region.base_ipa, offset]

@@ -45,7 +45,7 @@ impl State for PortRegisters {
     fn put_back(&mut self, _: &Self) {}
 
     fn words(&self) -> Vec<u64> {
-        lent_words::get::<31>(&self.cores, 0).to_vec()
+        words::get::<31>(&self.cores, 0).to_vec()
     }
 }
 
@@ -93,7 +93,7 @@ pub fn read(index: u64) -> Sides {
         state: PortRegisters::new(index),
         function: ffi::ritm_read_gpr as ReadFunction,
         call: |state: &mut PortRegisters, function| function(&state.cores, state.core, state.index, &mut state.word),
-        answer: |state, number| [[number], lent_words::get(&state.word, 0)].concat(),
+        answer: |state, number| [[number], words::get(&state.word, 0)].concat(),
     };
     let rust = Call {
         state: Viewed::new(index),

@@ -28,6 +28,9 @@ const LOAD: u64 = 0x24 << 26 | 1 << 24 | 3 << 22 | (RT as u64) << 16 | 1 << 15;
 const STORE: u64 = LOAD | 1 << 6;
 const VBAR: u64 = 0x4021_0800;
 
+/// SPSR_EL2: the guest is at EL1, on its own stack, with all exceptions masked, as an injected abort leaves it.
+const SPSR: u64 = 0x3c5;
+
 // Kinds of a trap's result.
 const LOAD_HANDLED: u64 = 1;
 const STORE_HANDLED: u64 = 2;
@@ -87,8 +90,8 @@ impl State for PortCores {
     }
 
     fn words(&self) -> Vec<u64> {
-        let mut held = lent_words::get::<{ CORE_WORDS - 1 }>(&self.cores, self.core as usize * CORE_WORDS).to_vec();
-        held.extend(lent_words::get::<1>(&self.cores, COUNTER));
+        let mut held = words::get::<{ CORE_WORDS - 1 }>(&self.cores, self.core as usize * CORE_WORDS).to_vec();
+        held.extend(words::get::<1>(&self.cores, COUNTER));
         held
     }
 }
@@ -171,7 +174,7 @@ impl Guest {
     /// A guest that accesses an address.
     fn accessing(esr: u64, regions: u64, ipa: u64, kind: u64) -> Self {
         let mut core = Core { x: array::from_fn(|k| 0x100 + k as u64), elr: 0x4020_0000, ..Core::default() };
-        (core.x[RT], core.spsr) = (STORED, 0x3c5);
+        (core.x[RT], core.spsr) = (STORED, SPSR);
         let trap = Trap { esr, fipa: ipa >> 12, far: ipa & 0xfff, vbar: VBAR };
         Self { core, trap, regions, kind, reply: GivenReply::new(0, &[]) }
     }
@@ -195,9 +198,9 @@ impl Guest {
             values: [0; ffi::VALUES_SIZE],
             registers: [0; ffi::REGISTERS_SIZE],
         };
-        lent_words::put(&mut state.values, &self.reply.values);
-        lent_words::put(&mut state.registers, &self.core.x);
-        lent_words::put(&mut state.registers[8 * 31..], &[self.core.elr, self.core.spsr]);
+        words::put(&mut state.values, &self.reply.values);
+        words::put(&mut state.registers, &self.core.x);
+        words::put(&mut state.registers[8 * 31..], &[self.core.elr, self.core.spsr]);
         assert_eq!(ffi::ritm_fresh_cores(&mut state.cores), 0, "fresh cores");
         assert_eq!(ffi::ritm_save(&mut state.cores, core, &state.registers), 0, "a fresh core takes a save");
         state
@@ -238,7 +241,7 @@ fn reply_in(state: &mut PortCores, function: ReplyFunction) -> u64 {
 
 /// The number of the port's answer, if its trap was of the kind that the case says.
 fn number_of_trap(state: &PortCores, number: u64) -> Vec<u64> {
-    assert_eq!(lent_words::get(&state.trapped, 0), [state.expected], "the trap is of the kind that the case says");
+    assert_eq!(words::get(&state.trapped, 0), [state.expected], "the trap is of the kind that the case says");
     vec![number]
 }
 

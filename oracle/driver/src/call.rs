@@ -3,9 +3,6 @@
 use reference::oracle::Trap;
 use std::fmt;
 
-/// How many kinds of calls there are.
-pub const KINDS: usize = 15;
-
 /// A call with its arguments.
 #[derive(Clone, Debug, Eq, PartialEq)]
 pub enum Call {
@@ -26,44 +23,25 @@ pub enum Call {
     AlignUp { address: u64 },
 }
 
-/// The names of the kinds.
-pub const NAMES: [&str; KINDS] = [
-    "allow",
-    "handle",
-    "find",
-    "save",
-    "trap",
-    "reply",
-    "read_gpr",
-    "write_gpr",
-    "insert",
-    "look-up",
-    "remove",
-    "decode",
-    "extend",
-    "align down",
-    "align up",
-];
-
 impl Call {
-    /// The place of its kind in [`NAMES`].
-    pub fn kind(&self) -> usize {
+    /// The name of its kind.
+    pub fn name(&self) -> &'static str {
         match self {
-            Self::Allow { .. } => 0,
-            Self::Handle { .. } => 1,
-            Self::Find { .. } => 2,
-            Self::Save { .. } => 3,
-            Self::Trap { .. } => 4,
-            Self::Reply { .. } => 5,
-            Self::ReadGpr { .. } => 6,
-            Self::WriteGpr { .. } => 7,
-            Self::Insert { .. } => 8,
-            Self::LookUp { .. } => 9,
-            Self::Remove { .. } => 10,
-            Self::Decode { .. } => 11,
-            Self::Extend { .. } => 12,
-            Self::AlignDown { .. } => 13,
-            Self::AlignUp { .. } => 14,
+            Self::Allow { .. } => "allow",
+            Self::Handle { .. } => "handle",
+            Self::Find { .. } => "find",
+            Self::Save { .. } => "save",
+            Self::Trap { .. } => "trap",
+            Self::Reply { .. } => "reply",
+            Self::ReadGpr { .. } => "read_gpr",
+            Self::WriteGpr { .. } => "write_gpr",
+            Self::Insert { .. } => "insert",
+            Self::LookUp { .. } => "look-up",
+            Self::Remove { .. } => "remove",
+            Self::Decode { .. } => "decode",
+            Self::Extend { .. } => "extend",
+            Self::AlignDown { .. } => "align down",
+            Self::AlignUp { .. } => "align up",
         }
     }
 
@@ -121,7 +99,7 @@ fn argument_names(call: &Call) -> &'static [&'static str] {
 
 impl fmt::Display for Call {
     fn fmt(&self, f: &mut fmt::Formatter) -> fmt::Result {
-        f.write_str(NAMES[self.kind()])?;
+        f.write_str(self.name())?;
         let arguments = self.arguments();
         let names = argument_names(self);
         for (place, name) in names.iter().enumerate() {

@@ -1,5 +1,6 @@
 //! Both sides take a list, and everything is compared after every call.
 
+use crate::asked::Asked;
 use crate::call::{Answer, Call, List};
 use crate::mirror::Mirror;
 use crate::port::Port;
@@ -19,9 +20,9 @@ pub struct Difference {
 /// What came of one call.
 pub struct Step {
     pub port: Answer,
-    /// RITM's answer, or the refusal that is due where RITM is not asked.
-    pub rust: Answer,
-    pub asked: bool,
+    pub asked: Asked,
+    /// The answer that the port owes: RITM's, as it is read, or the refusal that is due where RITM is not asked.
+    pub owed: Answer,
 }
 
 /// The two sides.
@@ -45,22 +46,19 @@ impl Sides {
     pub fn step(&mut self, call: &Call) -> (Step, Option<String>) {
         let before = self.port.clone();
         let port = self.port.take(call);
-        let outside = self.rust.outside(call);
-        let rust = match outside {
-            Some(number) => Answer::number(number),
-            None => self.rust.take(call),
-        };
-        if outside.is_none() {
+        let asked = Asked::of(call, &mut self.rust);
+        let owed = asked.answer(&mut self.rust);
+        if asked.of_ritm() {
             self.mirror.follow(call, &self.rust);
         }
-        let what = if port != rust {
+        let what = if port != owed {
             Some("the answers".to_owned())
         } else if port.number != 0 && self.port != before {
             Some("the port's bytes after a refusal".to_owned())
         } else {
             self.mirror.difference(&self.port)
         };
-        (Step { port, rust, asked: outside.is_none() }, what)
+        (Step { port, asked, owed }, what)
     }
 }
 
@@ -111,9 +109,9 @@ pub fn print(list: &List, difference: &Difference) {
     for (place, call) in list.calls.iter().take(difference.at + 1).enumerate() {
         println!("{}. {call}", place + 1);
         match panic::catch_unwind(AssertUnwindSafe(|| sides.step(call).0)) {
-            Ok(Step { port, rust, asked }) => {
+            Ok(Step { port, asked, owed }) => {
                 println!("     port: {port}");
-                println!("     {}: {rust}", if asked { "RITM" } else { "due" });
+                println!("     {}: {owed}", if asked.of_ritm() { "RITM" } else { "due" });
             }
             Err(_) => println!("     RITM panics"),
         }

@@ -1,5 +1,6 @@
 //! The edges that lists must meet, counted where RITM's Rust answers.
 
+use crate::asked::Asked;
 use crate::call::Call;
 use crate::generate;
 use crate::ritm_rust::RitmRust;
@@ -21,6 +22,8 @@ enum Edge {
     /// ELR wrapped at this kind of trap; at 0 with the reply to an SMC.
     ElrWraps(u64),
     VbarWraps,
+    /// An abort injected where the saved SPSR had this mode.
+    Mode(u64),
     CounterWraps,
     /// A call of this class with x0 by the limits of the firmware's calls.
     Function(u64, u64),
@@ -47,6 +50,7 @@ fn expected() -> BTreeSet<Edge> {
     edges.extend([29, 30, 31].into_iter().flat_map(|rt| [Edge::Register(1, rt), Edge::Register(3, rt)]));
     edges.extend([Edge::Register(2, 29), Edge::Register(2, 30)]);
     edges.extend([0, 1, 2].map(Edge::ElrWraps));
+    edges.extend((0..32).map(Edge::Mode));
     edges.extend([Edge::VbarWraps, Edge::CounterWraps, Edge::Ranges(32), Edge::Regions(16)]);
     edges.extend([0x16, 0x17].into_iter().flat_map(|class| limits().map(move |x0| Edge::Function(class, x0))));
     edges.extend([Edge::LastPage(0), Edge::LastPage(4)]);
@@ -67,6 +71,9 @@ fn of_trap(met: &mut BTreeSet<Edge>, trap: Trap, kind: u64, before: &Core, after
     if matches!(kind, 1 | 2) && after.elr < before.elr {
         met.insert(Edge::ElrWraps(kind));
     }
+    if kind == 3 {
+        met.insert(Edge::Mode(before.spsr & 0x1F));
+    }
     if kind == 3 && after.elr < trap.vbar {
         met.insert(Edge::VbarWraps);
     }
@@ -81,19 +88,18 @@ fn of_list(met: &mut BTreeSet<Edge>, number: u64) {
     for call in &list.calls {
         let core = call.core().filter(|core| *core < 8).unwrap_or_default() as usize;
         let (before, counter) = (rust.cores[core], rust.oracle.counter());
-        let asked = rust.outside(call).is_none();
-        let answer = asked.then(|| rust.take(call));
+        let answer = Asked::of(call, &mut rust).answer(&mut rust);
         let after = rust.cores[core];
         match *call {
             Call::Trap { trap, .. } => {
                 let found = rust.oracle.find(trap.fipa << 12 | trap.far & 0xFFF).is_some();
-                of_trap(met, trap, answer.map_or(0, |answer| answer.words()[0]), &before, &after, found);
+                of_trap(met, trap, answer.words()[0], &before, &after, found);
             }
-            Call::Reply { .. } if asked && after.elr < before.elr => {
+            Call::Reply { .. } if after.elr < before.elr => {
                 met.insert(Edge::ElrWraps(0));
             }
             Call::Allow { base, size, .. } if base.wrapping_add(size).wrapping_add(4096) <= 4096 && size > 0 => {
-                met.extend(answer.map(|answer| Edge::LastPage(answer.number)));
+                met.insert(Edge::LastPage(answer.number));
             }
             _ => {}
         }

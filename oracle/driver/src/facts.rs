@@ -23,6 +23,8 @@ const STORE: u64 = 0x1C5_8040;
 const PAGE: u64 = 0x0F00_0000;
 const COUNTER_WORD: u64 = PAGE + 16;
 const VECTOR: u64 = 0x8_0000;
+/// The SPSR of a guest at EL1, on its own stack.
+const EL1H: u64 = 5;
 /// 2^64, from which addresses are counted back.
 const END: u64 = 0;
 
@@ -50,6 +52,11 @@ impl View {
 impl Case {
     fn new(before: &[Call], call: Call) -> Self {
         Self { counter: 0, before: before.to_vec(), call }
+    }
+
+    /// A data abort of a guest at EL1.
+    fn abort(before: &[Call], iss: u64, ipa: u64, vbar: u64) -> Self {
+        Self::new(&[before, &[saved(0)]].concat(), trap(DATA_ABORT | iss, ipa, vbar))
     }
 
     /// The view of RITM's Rust, or the first line of its panic.
@@ -87,9 +94,10 @@ fn region(read: u64, write: u64) -> Call {
     Call::Handle { base: PAGE, size: 4096, read, write }
 }
 
+/// The registers of a guest at EL1.
 fn saved(elr: u64) -> Call {
     let mut registers = [0; 33];
-    registers[31] = elr;
+    [registers[31], registers[32]] = [elr, EL1H];
     Call::Save { core: 0, registers }
 }
 
@@ -185,7 +193,7 @@ fn refused(table: &mut Table) {
         ("a fault of the page", &[region(1, 1)], LOAD_32, COUNTER_WORD),
     ];
     for (why, before, iss, ipa) in aborts {
-        let case = Case::new(before, trap(DATA_ABORT | iss, ipa, 0));
+        let case = Case::abort(before, iss, ipa, 0);
         table.both(&format!("a data abort to be injected, {why}, VBAR 0"), &case, number);
     }
     let entries: Vec<Call> = (0..8).map(|key| Call::Insert { key, entry_point: 1, context_id: 2 }).collect();
@@ -230,7 +238,7 @@ fn sums(table: &mut Table) {
         table.both(&format!("load, ELR 2^64 - {below}"), &load, elr);
     }
     for below in [0x200, 1] {
-        let case = Case::new(&[], trap(DATA_ABORT | LOAD, PAGE, END.wrapping_sub(below)));
+        let case = Case::abort(&[], LOAD, PAGE, END.wrapping_sub(below));
         table.both(&format!("abort, VBAR 2^64 - {below:#x}"), &case, elr);
     }
     counters(table);
@@ -261,8 +269,8 @@ fn counters(table: &mut Table) {
         ("counter 3, 32 bits of its word loaded into x5", 3, LOAD_32),
     ];
     for (asked, counter, iss) in rows {
-        let call = trap(DATA_ABORT | iss, COUNTER_WORD, VECTOR);
-        table.both(asked, &Case { counter, ..Case::new(&[region(1, 1)], call) }, show);
+        let case = Case { counter, ..Case::abort(&[region(1, 1)], iss, COUNTER_WORD, VECTOR) };
+        table.both(asked, &case, show);
     }
 }
 

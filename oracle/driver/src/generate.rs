@@ -12,6 +12,13 @@ const PAGE: u64 = 4096;
 const STRETCHES: [u64; 3] = [0, 0xF000, 1 << 20];
 const PAGES: u64 = 1 << 52;
 
+/// Modes from which a trap may come, SPSR's bits 4:0: EL0, EL1 on EL0's stack, EL1 on its own; and the bit that those of
+/// AArch32 have.
+const EL0T: u64 = 0;
+const EL1T: u64 = 4;
+const EL1H: u64 = 5;
+const AARCH32: u64 = 0x10;
+
 /// What a list is mostly about.
 #[derive(Clone, Copy, Eq, PartialEq)]
 enum Theme {
@@ -31,42 +38,78 @@ enum Theme {
     Mixed,
 }
 
-const THEMES: [Theme; 7] =
-    [Theme::Overlaps, Theme::FullTables, Theme::Aborts, Theme::Calls, Theme::Map, Theme::Stateless, Theme::Mixed];
-const THEME_WEIGHTS: [u64; 7] = [3, 3, 6, 5, 2, 1, 4];
+/// How often each theme is chosen.
+const THEMES: [(u64, Theme); 7] = [
+    (3, Theme::Overlaps),
+    (3, Theme::FullTables),
+    (6, Theme::Aborts),
+    (5, Theme::Calls),
+    (2, Theme::Map),
+    (1, Theme::Stateless),
+    (4, Theme::Mixed),
+];
 
-/// What is added to a list next, by the order of the weights below.
-const ACTIONS: [fn(&mut Generator); 17] = [
-    Generator::allow,
-    Generator::handle,
-    Generator::find,
-    Generator::save,
-    Generator::abort,
-    Generator::forwarded_call,
-    Generator::any_trap,
-    Generator::reply,
-    Generator::read_gpr,
-    Generator::write_gpr,
-    Generator::insert,
-    Generator::look_up,
-    Generator::remove,
-    Generator::decode,
-    Generator::extend,
-    Generator::align_down,
-    Generator::align_up,
+/// What may be added to a list next, each with its weight.
+type Actions = &'static [(u64, fn(&mut Generator))];
+
+const OVERLAPS: Actions =
+    &[(20, Generator::allow), (14, Generator::handle), (8, Generator::find), (3, Generator::abort)];
+const FULL_TABLES: Actions =
+    &[(12, Generator::allow), (12, Generator::handle), (6, Generator::find), (2, Generator::abort)];
+const ABORTS: Actions = &[
+    (1, Generator::allow),
+    (2, Generator::handle),
+    (4, Generator::find),
+    (4, Generator::save),
+    (50, Generator::abort),
+    (2, Generator::forwarded_call),
+    (1, Generator::any_trap),
+    (2, Generator::reply),
+    (2, Generator::read_gpr),
+    (6, Generator::write_gpr),
+];
+const CALLS: Actions = &[
+    (5, Generator::save),
+    (2, Generator::abort),
+    (30, Generator::forwarded_call),
+    (2, Generator::any_trap),
+    (36, Generator::reply),
+    (3, Generator::read_gpr),
+    (6, Generator::write_gpr),
+];
+const MAP: Actions = &[(12, Generator::insert), (6, Generator::look_up), (4, Generator::remove)];
+const STATELESS: Actions =
+    &[(8, Generator::decode), (8, Generator::extend), (2, Generator::align_down), (3, Generator::align_up)];
+const MIXED: Actions = &[
+    (3, Generator::allow),
+    (3, Generator::handle),
+    (2, Generator::find),
+    (3, Generator::save),
+    (10, Generator::abort),
+    (5, Generator::forwarded_call),
+    (1, Generator::any_trap),
+    (6, Generator::reply),
+    (2, Generator::read_gpr),
+    (3, Generator::write_gpr),
+    (3, Generator::insert),
+    (2, Generator::look_up),
+    (1, Generator::remove),
+    (2, Generator::decode),
+    (2, Generator::extend),
+    (1, Generator::align_down),
+    (1, Generator::align_up),
 ];
 
 impl Theme {
-    /// How often each action is chosen.
-    fn weights(self) -> [u64; ACTIONS.len()] {
+    fn actions(self) -> Actions {
         match self {
-            Self::Overlaps => [20, 14, 8, 0, 3, 0, 0, 0, 0, 0, 0, 0, 0, 0, 0, 0, 0],
-            Self::FullTables => [12, 12, 6, 0, 2, 0, 0, 0, 0, 0, 0, 0, 0, 0, 0, 0, 0],
-            Self::Aborts => [1, 2, 4, 4, 50, 2, 1, 2, 2, 6, 0, 0, 0, 0, 0, 0, 0],
-            Self::Calls => [0, 0, 0, 5, 2, 30, 2, 36, 3, 6, 0, 0, 0, 0, 0, 0, 0],
-            Self::Map => [0, 0, 0, 0, 0, 0, 0, 0, 0, 0, 12, 6, 4, 0, 0, 0, 0],
-            Self::Stateless => [0, 0, 0, 0, 0, 0, 0, 0, 0, 0, 0, 0, 0, 8, 8, 2, 3],
-            Self::Mixed => [3, 3, 2, 3, 10, 5, 1, 6, 2, 3, 3, 2, 1, 2, 2, 1, 1],
+            Self::Overlaps => OVERLAPS,
+            Self::FullTables => FULL_TABLES,
+            Self::Aborts => ABORTS,
+            Self::Calls => CALLS,
+            Self::Map => MAP,
+            Self::Stateless => STATELESS,
+            Self::Mixed => MIXED,
         }
     }
 }
@@ -99,7 +142,7 @@ pub fn short_list(seed: u64, number: u64) -> List {
 }
 
 fn make(mut random: Random, short: bool) -> List {
-    let theme = THEMES[random.weighted(&THEME_WEIGHTS)];
+    let theme = random.weighted(&THEMES);
     let counter = match random.below(8) {
         0 => 0u64.wrapping_sub(random.below(4)),
         1 => random.word(),
@@ -108,10 +151,9 @@ fn make(mut random: Random, short: bool) -> List {
     let length = 60 + random.below(if short { 40 } else { 240 }) as usize;
     let mut generator = Generator::new(random, short);
     generator.open(theme);
-    let weights = theme.weights();
     while generator.calls.len() < length {
-        let action = generator.random.weighted(&weights);
-        ACTIONS[action](&mut generator);
+        let action = generator.random.weighted(theme.actions());
+        action(&mut generator);
     }
     List { counter, calls: generator.calls }
 }
@@ -274,14 +316,28 @@ impl Generator {
 
     fn save_core(&mut self, core: u64) {
         let mut registers = [0; 33];
-        for register in &mut registers {
+        for register in &mut registers[..32] {
             *register = self.word();
         }
+        registers[32] = self.spsr();
         // ELR where an instruction's length takes it past 2^64.
         if self.random.once_in(4) {
             registers[31] = 0u64.wrapping_sub(self.random.below(6));
         }
         self.calls.push(Call::Save { core, registers });
+    }
+
+    /// Any word, often with the mode of a guest at EL1.
+    fn spsr(&mut self) -> u64 {
+        let word = self.word();
+        let mode = match self.random.below(8) {
+            0..=2 => EL1H,
+            3 => EL1T,
+            4 => EL0T,
+            5 => AARCH32 | self.random.below(16),
+            _ => word & 0x1F,
+        };
+        word & !0x1F | mode
     }
 
     /// The bits of an ESR outside of EC and the ISS.

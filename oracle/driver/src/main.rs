@@ -1,5 +1,6 @@
 //! RITM's own Rust and the proved port take the same lists of calls, and every answer and state is compared.
 
+mod asked;
 mod call;
 mod compare;
 #[cfg(test)]

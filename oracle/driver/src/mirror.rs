@@ -111,7 +111,7 @@ impl Mirror {
 }
 
 fn word(buffer: &[u8], k: usize) -> u64 {
-    port::lent_words::<1>(&buffer[8 * k..])[0]
+    port::words::<1>(&buffer[8 * k..])[0]
 }
 
 /// The first of these places at which a buffer does not hold the word. Most hold all, which is told without branches.

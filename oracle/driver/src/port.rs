@@ -114,7 +114,7 @@ fn take_stateless_call(call: &Call) -> Answer {
 fn answered<const SIZE: usize, const WORDS: usize>(call: impl FnOnce(&mut [u8; SIZE]) -> u64) -> Answer {
     let mut result = [STALE; SIZE];
     let number = call(&mut result);
-    Answer::new(number, &lent_words::<WORDS>(&result))
+    Answer::new(number, &words::<WORDS>(&result))
 }
 
 /// The words of a buffer.

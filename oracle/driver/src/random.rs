@@ -82,13 +82,13 @@ impl Random {
         choices[self.below(choices.len() as u64) as usize]
     }
 
-    /// A place in this table of weights, the heavier the more often.
-    pub fn weighted(&mut self, weights: &[u64]) -> usize {
-        let mut left = self.below(weights.iter().sum());
-        for (place, weight) in weights.iter().enumerate() {
+    /// One of these, each with its weight: the heavier the more often.
+    pub fn weighted<T: Copy>(&mut self, choices: &[(u64, T)]) -> T {
+        let mut left = self.below(choices.iter().map(|(weight, _)| weight).sum());
+        for (weight, choice) in choices {
             match left.checked_sub(*weight) {
                 Some(rest) => left = rest,
-                None => return place,
+                None => return *choice,
             }
         }
         unreachable!("the number is below the sum of the weights")

@@ -5,6 +5,7 @@
 //! left out. Two calls have a lent form with a code of its own: a search is recorded in both, a register's write by
 //! turns, since it could not be seen a second time.
 
+use crate::asked::Asked;
 use crate::call::{Call, List};
 use crate::generate;
 use crate::mirror;
@@ -115,10 +116,11 @@ fn record(list: &List, text: &mut String) {
     line(text, &[FRESH, list.counter]);
     for (turn, call) in list.calls.iter().enumerate() {
         let form = form(call);
-        if rust.outside(call).is_some() {
+        let asked = Asked::of(call, &mut rust);
+        if !asked.of_ritm() {
             continue;
         }
-        let answer = rust.take(call);
+        let answer = asked.answer(&mut rust);
         let number = if form.number { &[answer.number][..] } else { &[] };
         let words = match *call {
             Call::Find { ipa } => &rust.oracle.find(ipa).map_or([0; 3], |(base, offset)| [1, base, offset])[..],
@@ -159,7 +161,7 @@ fn line(text: &mut String, fields: &[u64]) {
 #[cfg(test)]
 mod tests {
     use super::*;
-    use crate::call::{Answer, NAMES};
+    use crate::call::Answer;
     use crate::port::{self, Port};
     use reference::oracle::Trap;
 
@@ -235,7 +237,7 @@ mod tests {
     fn kind_of_answer(call: &Call, answer: &Answer) -> (&'static str, u64) {
         match call {
             Call::Trap { .. } | Call::Find { .. } | Call::LookUp { .. } | Call::Remove { .. } => {
-                (NAMES[call.kind()], answer.words()[0])
+                (call.name(), answer.words()[0])
             }
             _ => ("", answer.number),
         }

@@ -10,12 +10,9 @@ use reference::stage2::{align_down_to_page, align_up_to_page};
 pub const CORES: usize = 8;
 
 /// The exception classes that RITM handles.
-const HVC: u64 = 0x16;
-const SMC: u64 = 0x17;
-const DATA_ABORT: u64 = 0x24;
-
-/// The highest address that can be rounded up.
-const LAST_PAGE: u64 = 0u64.wrapping_sub(4096);
+pub const HVC: u64 = 0x16;
+pub const SMC: u64 = 0x17;
+pub const DATA_ABORT: u64 = 0x24;
 
 /// Where a result has a flag: something was found.
 const FOUND: u64 = 1;
@@ -49,7 +46,7 @@ pub struct RitmRust {
 }
 
 /// EC, ESR_EL2's bits 31:26.
-fn class(trap: Trap) -> u64 {
+pub fn class(trap: Trap) -> u64 {
     trap.esr >> 26 & 0x3F
 }
 
@@ -69,53 +66,12 @@ impl RitmRust {
         self.forwarded[core].map_or(0, Forwarded::wait)
     }
 
-    /// The refusal of a call that RITM cannot be asked, panics at, or answers with a wrapped sum: 10 to 16, 18 and 20.
-    pub fn outside(&mut self, call: &Call) -> Option<u64> {
-        match *call {
-            Call::Handle { read, write, .. } if read > 1 || write > 1 => Some(20),
-            Call::Save { core, .. }
-            | Call::Trap { core, .. }
-            | Call::Reply { core, .. }
-            | Call::ReadGpr { core, .. }
-            | Call::WriteGpr { core, .. }
-                if core >= CORES as u64 =>
-            {
-                Some(10)
-            }
-            Call::Save { core, .. } | Call::Trap { core, .. } if self.forwarded[core as usize].is_some() => Some(11),
-            Call::Trap { core, trap } => self.outside_trap(core as usize, trap),
-            Call::Reply { core, kind, .. } => match self.forwarded[core as usize] {
-                None => Some(14),
-                Some(call) if kind > 4 || call.firmware && !matches!(kind, 1 | 4) => Some(15),
-                Some(_) => None,
-            },
-            Call::Insert { key, .. } if self.map.places().all(|place| place.is_some_and(|(held, _)| *held != key)) => {
-                Some(16)
-            }
-            Call::AlignUp { address } if address > LAST_PAGE => Some(18),
-            _ => None,
-        }
+    /// Whether a core waits for the firmware; none if it waits for nothing.
+    pub fn waits_for_firmware(&self, core: usize) -> Option<bool> {
+        self.forwarded[core].map(|call| call.firmware)
     }
 
-    fn outside_trap(&mut self, core: usize, trap: Trap) -> Option<u64> {
-        match class(trap) {
-            HVC | SMC => None,
-            DATA_ABORT if trap.vbar == 0 && self.injects(core, trap) => Some(13),
-            DATA_ABORT => None,
-            _ => Some(12),
-        }
-    }
-
-    /// Whether the abort is injected where there is a vector: asked of a copy of the core.
-    fn injects(&mut self, core: usize, trap: Trap) -> bool {
-        let counter = self.oracle.counter();
-        let with_vector = Trap { vbar: 1, ..trap };
-        let answer = self.oracle.trap(&mut self.cores[core].clone(), with_vector, Reply::Unhandled);
-        self.oracle.set_counter(counter);
-        answer == oracle::Answer::AbortInjected
-    }
-
-    /// Takes a call that is not outside.
+    /// Takes a call as it is, which RITM must have: it panics where RITM does.
     pub fn take(&mut self, call: &Call) -> Answer {
         match *call {
             Call::Allow { base, size, attributes } => Answer::number(self.oracle.allow_range(base, size, attributes)),
@@ -185,7 +141,7 @@ impl RitmRust {
     /// RITM's trap again, on the core as it now is and with this reply. Its x0 may have been written meanwhile, so the
     /// one that chose the recipient is put back: every reply writes x0.
     fn reply(&mut self, at: usize, reply: Reply) -> Answer {
-        let call = self.forwarded[at].take().expect("a reply to a core that waits for none is outside");
+        let call = self.forwarded[at].take().expect("RITM is asked for a reply where a core waits for one");
         self.cores[at].x[0] = call.x0;
         let answer = self.oracle.trap(&mut self.cores[at], call.trap, reply);
         let firmware = matches!(answer, oracle::Answer::ToFirmware(_));
@@ -215,7 +171,7 @@ fn reply_of_kind(kind: u64, values: &[u64; 18], error: i32) -> Reply {
         2 => Reply::Four([values[0], values[1], values[2], values[3]]),
         3 => Reply::Eighteen(*values),
         4 => Reply::Error(error),
-        _ => unreachable!("a reply of kind {kind} is outside"),
+        _ => unreachable!("RITM is not asked for a reply of kind {kind}"),
     }
 }
 

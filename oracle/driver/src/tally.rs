@@ -1,26 +1,38 @@
 //! How often each answer was met.
 
-use crate::call::{Call, KINDS, NAMES};
+use crate::asked::OUTSIDE;
+use crate::call::Call;
 use crate::compare::Step;
+use std::collections::BTreeMap;
 use std::fmt;
 
 /// The numbers of document 01's table, and 0.
 const NUMBERS: usize = 21;
-/// Those that RITM gives: the domain of the comparison.
-const DOMAIN: [usize; 11] = [1, 2, 3, 4, 5, 6, 7, 8, 9, 17, 19];
-/// Those at which RITM is not asked.
-const OUTSIDE: [usize; 9] = [10, 11, 12, 13, 14, 15, 16, 18, 20];
+/// The refusals that RITM gives.
+const DOMAIN: [u64; 11] = [1, 2, 3, 4, 5, 6, 7, 8, 9, 17, 19];
 const TRAPS: [&str; 5] = ["load handled", "store handled", "abort injected", "to the firmware", "to the platform"];
+
+/// How often a number was returned.
+type Times = [u64; NUMBERS];
+
+/// What came of the calls of one name.
+#[derive(Default)]
+struct Counts {
+    /// Those that RITM was asked.
+    compared: Times,
+    /// Those that the port took alone.
+    alone: Times,
+    /// Find, look-up and remove that found something.
+    found: u64,
+}
 
 /// Counts of answers.
 #[derive(Default)]
 pub struct Tally {
     pub lists: u64,
     pub calls: u64,
-    numbers: [[u64; NUMBERS]; KINDS],
+    by_name: BTreeMap<&'static str, Counts>,
     traps: [u64; TRAPS.len()],
-    /// Find, look-up and remove that found something.
-    found: [u64; KINDS],
     replies: [u64; 5],
 }
 
@@ -28,9 +40,10 @@ impl Tally {
     /// Counts a call and what came of it.
     pub fn count(&mut self, call: &Call, step: &Step) {
         self.calls += 1;
-        let kind = call.kind();
         let answer = &step.port;
-        if let Some(counted) = self.numbers[kind].get_mut(answer.number as usize) {
+        let counts = self.by_name.entry(call.name()).or_default();
+        let times = if step.asked.of_ritm() { &mut counts.compared } else { &mut counts.alone };
+        if let Some(counted) = times.get_mut(answer.number as usize) {
             *counted += 1;
         }
         if answer.number != 0 {
@@ -42,50 +55,71 @@ impl Tally {
                     *counted += 1;
                 }
             }
-            Call::Find { .. } | Call::LookUp { .. } | Call::Remove { .. } => self.found[kind] += answer.words()[0],
+            Call::Find { .. } | Call::LookUp { .. } | Call::Remove { .. } => counts.found += answer.words()[0],
             Call::Reply { kind, .. } => self.replies[kind as usize] += 1,
             _ => {}
         }
     }
 
-    fn number(&self, number: usize) -> u64 {
-        self.numbers.iter().map(|kind| kind[number]).sum()
+    /// How often each number was returned by calls that RITM was asked, and by those that the port took alone.
+    fn compared(&self) -> Times {
+        sum(self.by_name.values().map(|counts| &counts.compared))
+    }
+
+    fn alone(&self) -> Times {
+        sum(self.by_name.values().map(|counts| &counts.alone))
     }
 
     /// Each answer that RITM gives, with how often it was met.
     fn answers(&self) -> Vec<(String, u64)> {
-        let numbers = DOMAIN.iter().map(|number| (number.to_string(), self.number(*number)));
+        let compared = self.compared();
+        let numbers = [0].into_iter().chain(DOMAIN).map(|number| (number.to_string(), compared[number as usize]));
         let traps = TRAPS.iter().zip(self.traps).map(|(name, times)| ((*name).to_owned(), times));
-        [("0".to_owned(), self.number(0))].into_iter().chain(numbers).chain(traps).collect()
+        numbers.chain(traps).collect()
     }
 
     /// The answer met least often.
     pub fn fewest(&self) -> (String, u64) {
         self.answers().into_iter().min_by_key(|(_, times)| *times).expect("there are answers")
     }
+
+    /// A line of the calls of one name.
+    fn write_calls(&self, f: &mut fmt::Formatter, name: &str, counts: &Counts) -> fmt::Result {
+        let times = sum([&counts.compared, &counts.alone].into_iter());
+        write!(f, "  {name:>15} {:>12}:", times.iter().sum::<u64>())?;
+        for (number, times) in times.iter().enumerate().filter(|(_, times)| **times > 0) {
+            write!(f, " {number}: {times}")?;
+        }
+        match name {
+            "find" | "look-up" | "remove" => writeln!(f, " ({} found)", counts.found),
+            "reply" => writeln!(f, " (kinds 0 to 4: {:?})", self.replies),
+            _ => writeln!(f),
+        }
+    }
+}
+
+fn sum<'a>(all: impl Iterator<Item = &'a Times>) -> Times {
+    all.fold([0; NUMBERS], |sums, times| std::array::from_fn(|number| sums[number] + times[number]))
 }
 
 impl fmt::Display for Tally {
     fn fmt(&self, f: &mut fmt::Formatter) -> fmt::Result {
-        writeln!(f, "Calls compared with RITM, by their answers:")?;
+        let [compared, alone] = [self.compared(), self.alone()];
+        writeln!(f, "{} calls compared with RITM, by their answers:", compared.iter().sum::<u64>())?;
         for (answer, times) in self.answers() {
             writeln!(f, "  {answer:>15} {times:>12}")?;
         }
-        writeln!(f, "Calls that RITM is not asked, refused by the port with nothing changed:")?;
+        writeln!(
+            f,
+            "{} calls that RITM is not asked, refused by the port with nothing changed:",
+            alone.iter().sum::<u64>()
+        )?;
         for number in OUTSIDE {
-            writeln!(f, "  {number:>15} {:>12}", self.number(number))?;
+            writeln!(f, "  {number:>15} {:>12}", alone[number as usize])?;
         }
         writeln!(f, "By call:")?;
-        for (kind, name) in NAMES.iter().enumerate() {
-            write!(f, "  {name:>15} {:>12}:", self.numbers[kind].iter().sum::<u64>())?;
-            for (number, times) in self.numbers[kind].iter().enumerate().filter(|(_, times)| **times > 0) {
-                write!(f, " {number}: {times}")?;
-            }
-            match kind {
-                2 | 9 | 10 => writeln!(f, " ({} found)", self.found[kind])?,
-                5 => writeln!(f, " (kinds 0 to 4: {:?})", self.replies)?,
-                _ => writeln!(f)?,
-            }
+        for (name, counts) in &self.by_name {
+            self.write_calls(f, name, counts)?;
         }
         let (answer, times) = self.fewest();
         write!(f, "Met least often of RITM's answers: {answer}, {times} times.")

@@ -1,0 +1,139 @@
+//! What RITM is asked where the port takes a call, and how its answer is read as the one that the port owes.
+//!
+//! Document 01's domain is the first case: RITM is asked the same call, and what it answers and then holds is the
+//! port's. Outside of it RITM has no such call, panics, or answers with a wrapped sum. A change that makes the port
+//! depart from the Rust adds its case here.
+
+use crate::call::{Answer, Call};
+use crate::ritm_rust::{CORES, DATA_ABORT, HVC, RitmRust, SMC, class};
+use reference::oracle::{self, Reply, Trap};
+
+/// The refusals outside document 01's domain.
+pub const OUTSIDE: [u64; 9] = [10, 11, 12, 13, 14, 15, 16, 18, 20];
+
+/// The highest address that can be rounded up.
+const LAST_PAGE: u64 = 0u64.wrapping_sub(4096);
+
+/// What RITM is asked where the port takes a call.
+#[derive(Clone, Debug, Eq, PartialEq)]
+#[expect(clippy::large_enum_variant, reason = "one is held at a time")]
+pub enum Asked {
+    /// Nothing: the port alone takes the call. This refusal is due, and nothing changes.
+    Nothing { due: u64 },
+    /// This call, whose answer is read in this way.
+    Ritm { call: Call, read: Reading },
+}
+
+/// How RITM's answer, and the state in which the call leaves RITM, are read as the port's.
+#[derive(Clone, Copy, Debug, Eq, PartialEq)]
+pub enum Reading {
+    /// As they are.
+    Same,
+}
+
+impl Asked {
+    /// What RITM is asked for this call, as it now stands.
+    pub fn of(call: &Call, rust: &mut RitmRust) -> Self {
+        match outside(call, rust) {
+            Some(due) => Self::Nothing { due },
+            None => Self::Ritm { call: call.clone(), read: Reading::Same },
+        }
+    }
+
+    /// Whether RITM is asked at all.
+    pub fn of_ritm(&self) -> bool {
+        matches!(self, Self::Ritm { .. })
+    }
+
+    /// Asks it, and gives the answer that the port owes. RITM is left with the state that the port must then have: the
+    /// mirror is made from it, and the next call starts there.
+    pub fn answer(&self, rust: &mut RitmRust) -> Answer {
+        match self {
+            Self::Nothing { due } => Answer::number(*due),
+            Self::Ritm { call, read: Reading::Same } => rust.take(call),
+        }
+    }
+}
+
+/// The refusal of a call outside document 01's domain, the first one met.
+fn outside(call: &Call, rust: &mut RitmRust) -> Option<u64> {
+    match *call {
+        Call::Handle { read, write, .. } if read > 1 || write > 1 => Some(20),
+        Call::Save { core, .. }
+        | Call::Trap { core, .. }
+        | Call::Reply { core, .. }
+        | Call::ReadGpr { core, .. }
+        | Call::WriteGpr { core, .. }
+            if core >= CORES as u64 =>
+        {
+            Some(10)
+        }
+        Call::Save { core, .. } | Call::Trap { core, .. } if rust.waits_for_firmware(core as usize).is_some() => {
+            Some(11)
+        }
+        Call::Trap { core, trap } => outside_trap(rust, core as usize, trap),
+        Call::Reply { core, kind, .. } => match rust.waits_for_firmware(core as usize) {
+            None => Some(14),
+            Some(firmware) if kind > 4 || firmware && !matches!(kind, 1 | 4) => Some(15),
+            Some(_) => None,
+        },
+        Call::Insert { key, .. } if rust.map.places().all(|place| place.is_some_and(|(held, _)| *held != key)) => {
+            Some(16)
+        }
+        Call::AlignUp { address } if address > LAST_PAGE => Some(18),
+        _ => None,
+    }
+}
+
+fn outside_trap(rust: &mut RitmRust, core: usize, trap: Trap) -> Option<u64> {
+    match class(trap) {
+        HVC | SMC => None,
+        DATA_ABORT if trap.vbar == 0 && injects(rust, core, trap) => Some(13),
+        DATA_ABORT => None,
+        _ => Some(12),
+    }
+}
+
+/// Whether the abort is injected where there is a vector: asked of a copy of the core.
+fn injects(rust: &mut RitmRust, core: usize, trap: Trap) -> bool {
+    let counter = rust.oracle.counter();
+    let with_vector = Trap { vbar: 1, ..trap };
+    let answer = rust.oracle.trap(&mut rust.cores[core].clone(), with_vector, Reply::Unhandled);
+    rust.oracle.set_counter(counter);
+    answer == oracle::Answer::AbortInjected
+}
+
+#[cfg(test)]
+mod tests {
+    use super::*;
+    use crate::generate;
+    use crate::port::Port;
+    use std::collections::BTreeSet;
+
+    const SEED: u64 = 1;
+    const LISTS: u64 = 500;
+
+    /// Document 01's domain, by the port's answers: RITM is asked every call that returns none of the refusals outside,
+    /// unchanged, and no other. All of these are met.
+    #[test]
+    fn the_domain_is_document_01s() {
+        let mut met = BTreeSet::new();
+        for number in 0..LISTS {
+            let list = generate::list(SEED, number);
+            let mut port = Port::fresh(list.counter);
+            let mut rust = RitmRust::fresh(list.counter);
+            for call in &list.calls {
+                let answer = port.take(call);
+                let asked = Asked::of(call, &mut rust);
+                if OUTSIDE.contains(&answer.number) {
+                    assert_eq!(asked, Asked::Nothing { due: answer.number }, "{call}");
+                    met.insert(answer.number);
+                } else {
+                    assert_eq!(asked, Asked::Ritm { call: call.clone(), read: Reading::Same }, "{call}");
+                }
+                assert_eq!(asked.answer(&mut rust), answer, "{call}");
+            }
+        }
+        assert_eq!(met, BTreeSet::from(OUTSIDE));
+    }
+}
