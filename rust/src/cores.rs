@@ -172,9 +172,9 @@ impl Cores {
     /// [`Refusal::NoSuchCore`], [`Refusal::CoreWaiting`].
     pub fn save(&mut self, core: u64, registers: &Registers) -> Result<(), Refusal> {
         let mut bytes = [0; ffi::REGISTERS_SIZE];
-        lent_words::put_all(&mut bytes, 0, &registers.x);
-        lent_words::put(&mut bytes, ELR, registers.elr);
-        lent_words::put(&mut bytes, SPSR, registers.spsr);
+        words::put_all(&mut bytes, 0, &registers.x);
+        words::put(&mut bytes, ELR, registers.elr);
+        words::put(&mut bytes, SPSR, registers.spsr);
         accepted(ffi::ritm_save(&mut self.0, core, &bytes))
     }
 
@@ -207,7 +207,7 @@ impl Cores {
     pub fn reply(&mut self, core: u64, reply: &HvcReply) -> Result<(), Refusal> {
         let (kind, values, error) = reply.parts();
         let mut bytes = [0; ffi::VALUES_SIZE];
-        lent_words::put_all(&mut bytes, 0, values);
+        words::put_all(&mut bytes, 0, values);
         accepted(ffi::ritm_reply(&mut self.0, core, kind, &bytes, error))
     }
 
@@ -239,9 +239,9 @@ impl Cores {
     pub fn registers(&self, core: u64) -> Result<Registers, Refusal> {
         let start = core_start(core)?;
         Ok(Registers {
-            x: lent_words::get_all(&self.0, start),
-            elr: lent_words::get(&self.0, start + ELR),
-            spsr: lent_words::get(&self.0, start + SPSR),
+            x: words::get_all(&self.0, start),
+            elr: words::get(&self.0, start + ELR),
+            spsr: words::get(&self.0, start + SPSR),
         })
     }
 
@@ -251,7 +251,7 @@ impl Cores {
     ///
     /// [`Refusal::NoSuchCore`].
     pub fn fault_registers(&self, core: u64) -> Result<FaultRegisters, Refusal> {
-        let [elr, spsr, far, esr] = lent_words::get_all(&self.0, core_start(core)? + FAULT_REGISTERS);
+        let [elr, spsr, far, esr] = words::get_all(&self.0, core_start(core)? + FAULT_REGISTERS);
         Ok(FaultRegisters { elr, spsr, far, esr })
     }
 
@@ -261,7 +261,7 @@ impl Cores {
     ///
     /// [`Refusal::NoSuchCore`].
     pub fn wait(&self, core: u64) -> Result<Wait, Refusal> {
-        Ok(match lent_words::get(&self.0, core_start(core)? + WAIT) {
+        Ok(match words::get(&self.0, core_start(core)? + WAIT) {
             1 => Wait::Call(Conduit::Hvc, Recipient::Firmware),
             2 => Wait::Call(Conduit::Hvc, Recipient::Platform),
             3 => Wait::Call(Conduit::Smc, Recipient::Firmware),
@@ -273,7 +273,7 @@ impl Cores {
     /// The counter of the filtered MMIO page.
     #[must_use]
     pub fn counter(&self) -> u64 {
-        lent_words::get(&self.0, COUNTER)
+        words::get(&self.0, COUNTER)
     }
 }
 
@@ -294,12 +294,12 @@ fn core_start(core: u64) -> Result<usize, Refusal> {
 
 /// The answer that stands in an accepted trap's result.
 fn trap_answer(result: &[u8; ffi::TRAP_RESULT_SIZE]) -> TrapAnswer {
-    match lent_words::get(result, 0) {
+    match words::get(result, 0) {
         1 => TrapAnswer::LoadHandled,
         2 => TrapAnswer::StoreHandled,
         3 => TrapAnswer::AbortInjected,
-        4 => TrapAnswer::ToFirmware(lent_words::get_all(result, 1)),
-        5 => TrapAnswer::ToPlatform(lent_words::get_all(result, 1)),
+        4 => TrapAnswer::ToFirmware(words::get_all(result, 1)),
+        5 => TrapAnswer::ToPlatform(words::get_all(result, 1)),
         kind => unreachable!("the archive gives no trap of kind {kind}"),
     }
 }

@@ -38,7 +38,7 @@ pub struct MemoryAccess {
 pub fn decode(iss: u32, fipa: u64, far: u64) -> Result<MemoryAccess, Refusal> {
     let mut result = [0; ffi::ACCESS_RESULT_SIZE];
     accepted(ffi::ritm_decode(iss, fipa, far, &mut result))?;
-    let [ipa, width, wnr, register_index, sse, sf] = lent_words::get_all(&result, 0);
+    let [ipa, width, wnr, register_index, sse, sf] = words::get_all(&result, 0);
     Ok(MemoryAccess {
         ipa,
         width,

@@ -145,14 +145,14 @@ impl Policy {
     pub fn find(&self, ipa: u64) -> Option<RegionMatch> {
         let mut result = [0; ffi::FIND_RESULT_SIZE];
         never_refused(ffi::ritm_find(&self.0, ipa, &mut result));
-        let [found, index, offset] = lent_words::get_all(&result, 0);
+        let [found, index, offset] = words::get_all(&result, 0);
         (found == 1).then_some(RegionMatch { index: index as usize, offset })
     }
 
     /// The allowed ranges, in order of arrival: what the host writes into its page tables.
     pub fn allowed_ranges(&self) -> impl Iterator<Item = Stage2Range> + '_ {
         (0..self.count(ALLOWED_COUNT, MAX_ALLOWED_RANGES)).map(|k| {
-            let [base_ipa, size, end_ipa, attributes] = lent_words::get_all(&self.0, k * ALLOWED_WORDS);
+            let [base_ipa, size, end_ipa, attributes] = words::get_all(&self.0, k * ALLOWED_WORDS);
             Stage2Range { base_ipa, size, end_ipa, attributes }
         })
     }
@@ -160,7 +160,7 @@ impl Policy {
     /// The handled regions, ascending by base.
     pub fn regions(&self) -> impl Iterator<Item = MemoryAccessRegion> + '_ {
         (0..self.count(REGION_COUNT, MAX_MEMORY_ACCESS_HANDLERS)).map(|k| {
-            let [base_ipa, size, end_ipa, read, write] = lent_words::get_all(&self.0, REGIONS + k * REGION_WORDS);
+            let [base_ipa, size, end_ipa, read, write] = words::get_all(&self.0, REGIONS + k * REGION_WORDS);
             MemoryAccessRegion {
                 base_ipa,
                 size,
@@ -175,7 +175,7 @@ impl Policy {
 
     /// A stored count; one above its limit reads as the limit.
     fn count(&self, place: usize, limit: usize) -> usize {
-        lent_words::get(&self.0, place).min(limit as u64) as usize
+        words::get(&self.0, place).min(limit as u64) as usize
     }
 }
 

@@ -84,6 +84,6 @@ impl Default for SuspendMap {
 }
 
 fn entry(result: &[u8; ffi::ENTRY_RESULT_SIZE]) -> Option<SuspendCoreData> {
-    let [found, entry_point, context_id] = lent_words::get_all(result, 0);
+    let [found, entry_point, context_id] = words::get_all(result, 0);
     (found == 1).then_some(SuspendCoreData { entry_point, context_id })
 }
