@@ -1,3 +1,2 @@
 -- Laws of `ritm`.
 pub mod Cores
-pub mod Find

@@ -6,12 +6,9 @@ use mathlib.Core.Bool.{cond}
 use mathlib.Core.List.{List, [], _∷_}
 use lib.Dec.{eqb, ltb}
 use lib.ListN.{getD}
-use Rattle.lists.specs.Lists.{firstIndex}
 use Rattle.memory_access.specs.Syndrome.{decodeAccess, numberOf, valuesOf}
 use Rattle.memory_access.specs.Transfer.{extendedValue}
-use Rattle.stage2_range.specs.Ranges.{resultNumber, alignDown, alignUp, alignedNumber, alignedValue}
-use Rattle.stage2_range.specs.Registry.{hasAddress, findRegion, foundValues}
-use Rattle.stage2.specs.Policy.{regionsHeld, allowRange, handleRange}
+use Rattle.stage2_range.specs.Ranges.{alignDown, alignUp, alignedNumber, alignedValue}
 use Rattle.simple_map.specs.Map.{getItem, insertItem, insertNumber, removeItem, lookupValues}
 use Rattle.exceptions.specs.Registers.{readGpr, readNumber, readValue, writeGpr, writeNumber}
 use Rattle.data_abort.specs.declared.TrapRegisters.{TrapRegisters}
@@ -22,45 +19,13 @@ use Rattle.lent_words.specs.Words.{wordAt, wordsAt, bytesOf}
 pub use Rattle.lent_words.specs.Words.{Left, unlessRefused}
 unfoldable pub use Rattle.lent_trap.specs.LentTrap.{trapCall}
 use Rattle.lent_reply.specs.LentReply.{replyIn}
-use Rattle.lent_policy.specs.Layout.{policyAt, withAllowedOf, withRegionsOf}
+unfoldable pub use Rattle.lent_policy.specs.Calls.{allowCall, handleCall, findCall}
 use Rattle.lent_cores.specs.Layout.{coresAt, withCore}
 use Rattle.lent_map.specs.Layout.{mapAt, withPlaces}
 
 -- the four numbers of `ritm_trap`
 abbrev pub trapRegisters : ℕ → ℕ → ℕ → ℕ → TrapRegisters
 trapRegisters esr fipa far vbar = record { esr = esr; fipa = record { 0 = fipa }; far = far; vbar = vbar }
-
--- `ritm_allow_range`: the allowed ranges are written, and no byte of the regions
-unfoldable pub allowCall : List ℕ → ℕ → ℕ → ℕ → Left
-allowCall policy base size attributes =
-    let built = allowRange (policyAt policy) base size attributes in
-    let number = resultNumber (built .answer) in
-    record {
-      number = number;
-      state = unlessRefused number policy (withAllowedOf policy (built .policy));
-      result = [];
-    }
-
--- `ritm_handle_range`: the regions are written, and no byte of the allowed ranges
-unfoldable pub handleCall : List ℕ → ℕ → ℕ → ℕ → ℕ → Left
-handleCall policy base size read write =
-    let built = handleRange (policyAt policy) base size read write in
-    let number = resultNumber (built .answer) in
-    record {
-      number = number;
-      state = unlessRefused number policy (withRegionsOf policy (built .policy));
-      result = [];
-    }
-
--- `ritm_find`
-unfoldable pub findCall : List ℕ → ℕ → Left
-findCall policy ipa =
-    let regions = regionsHeld (policyAt policy) in
-    record {
-      number = 0;
-      state = policy;
-      result = bytesOf (foundValues (firstIndex (hasAddress ipa) regions) (findRegion regions (record { 0 = ipa })));
-    }
 
 -- a step of one core: its words are written, and no byte of another core
 unfoldable pub steppedCore : List ℕ → ℕ → CoresStep → Left

@@ -1,8 +1,10 @@
 // What an EL2 host in C or Rust calls: plain numbers, and bytes that it lends. A call returns 0 or the number of its refusal; a refusal leaves
 // the state's bytes as they were, and a result is written whole on every call, zeros where there is nothing.
 ghost use mathlib.Core.Path.{_≡_};
+ghost use mathlib.Core.List.{[]};
 ghost use lib.ListN.{replicate};
 ghost use Rattle.hypervisor.specs.Cores.{freshCores};
+ghost use Rattle.lent_words.specs.Words.{Leaves};
 ghost use Rattle.lent_policy.specs.Layout.{policyAt};
 ghost use Rattle.lent_cores.specs.Layout.{coresAt, counterAt};
 ghost use Rattle.lent_map.specs.Layout.{mapAt};
@@ -63,10 +65,9 @@ pub extern "C" fn ritm_allow_range(
     size: u64,
     attributes: u64,
 ) -> u64
-    ensures { λ r. ⌜ (r ≡ allowCall (now (policy .entry)) «base_ipa» size attributes .number)
-        × (now (policy .exit) ≡ allowCall (now (policy .entry)) «base_ipa» size attributes .state) ⌝ }
+    ensures { λ r. ⌜ Leaves (allowCall (now (policy .entry)) «base_ipa» size attributes) r (now (policy .exit)) [] ⌝ }
 {
-    lent_policy::allow_range(policy, base_ipa, size, attributes).number()
+    lent_policy::allow_range(policy, base_ipa, size, attributes)
 }
 
 // Has the guest's accesses to a range handled: refusals 20, 1 to 4, 6, 8, 9.
@@ -78,10 +79,9 @@ pub extern "C" fn ritm_handle_range(
     read: u64,
     write: u64,
 ) -> u64
-    ensures { λ r. ⌜ (r ≡ handleCall (now (policy .entry)) «base_ipa» size read write .number)
-        × (now (policy .exit) ≡ handleCall (now (policy .entry)) «base_ipa» size read write .state) ⌝ }
+    ensures { λ r. ⌜ Leaves (handleCall (now (policy .entry)) «base_ipa» size read write) r (now (policy .exit)) [] ⌝ }
 {
-    lent_policy::handle_range(policy, base_ipa, size, read, write).number()
+    lent_policy::handle_range(policy, base_ipa, size, read, write)
 }
 
 // The first region held that has the address: whether there is one, its place and the offset in it.
@@ -91,18 +91,9 @@ pub extern "C" fn ritm_find(
     ipa: u64,
     result: &mut [u8; THREE_WORDS],
 ) -> u64
-    ensures { λ r. ⌜ (r ≡ findCall (now (policy .entry)) ipa .number)
-        × (now (result .exit) ≡ findCall (now (policy .entry)) ipa .result) ⌝ }
+    ensures { λ r. ⌜ Leaves (findCall (now (policy .entry)) ipa) r (now (policy .entry)) (now (result .exit)) ⌝ }
 {
-    let place = lent_policy::find_place(policy, ipa);
-    let held = lists::held_count(lent_policy::get_region_count(policy), 16);
-    if place < held {
-        let offset = ipa - lent_policy::get_region_base(policy, place);
-        lent_words::put_three(result, 1, place, offset);
-        return 0;
-    }
-    lent_words::put_three(result, 0, 0, 0);
-    0
+    lent_policy::find(policy, ipa, result)
 }
 
 const LAST_CORE: u64 = 7;
