@@ -4,8 +4,8 @@ use mathlib.Core.Bool.{true}
 use Rattle.lists.specs.Lists.{held}
 use Rattle.memory_access.specs.Syndrome.{faultIpa, decodeAccess}
 use Rattle.memory_access.specs.Transfer.{signExtend, loaded, atRegisterWidth, extendReadResult}
-use Rattle.stage2_range.specs.Ranges.{validateRange, sharesByte, overlapsAllowed}
-use Rattle.stage2_range.specs.Registry.{overlapsRegions, findRegion, insertRegion, registerAnswer}
+use Rattle.stage2_range.specs.Ranges.{validateRange, hasByte, sharesByte, overlaps}
+use Rattle.stage2_range.specs.Registry.{findRegion, insertRegion, registerAnswer}
 use Rattle.stage2.specs.Policy.{freshPolicy, allowAnswerFor, addAllowed, allowRange, handleAnswerFor, addRegion, handleRange}
 use Rattle.exceptions.specs.Registers.{freshCore, withRegisters, advancePc}
 use Rattle.hvc_response.specs.Response.{response, withFirst, resultOfKind}
@@ -19,8 +19,8 @@ use Rattle.bits.specs.Bits.{bitAt, bitsAt, lowBits, withBits}
 
 pub bench-table-holds : holds benchTable ≡ true
 unfolding
-    held bitsAt bitAt faultIpa decodeAccess lowBits signExtend loaded atRegisterWidth extendReadResult validateRange sharesByte
-    overlapsAllowed overlapsRegions findRegion insertRegion registerAnswer freshPolicy allowAnswerFor addAllowed allowRange
+    held bitsAt bitAt faultIpa decodeAccess lowBits signExtend loaded atRegisterWidth extendReadResult validateRange hasByte
+    sharesByte overlaps findRegion insertRegion registerAnswer freshPolicy allowAnswerFor addAllowed allowRange
     handleAnswerFor addRegion handleRange freshCore withRegisters response withFirst resultOfKind advancePc injectionDue withBits
     injected injectDataAbort handleDataAbort exceptionClass recipientOf withWait forwardCall byClass handleSyncLower
     freshCores saveCore mayReply resumed decideReply replyCore onCore saveOn replyOn trapOn oneRegion savedCores trapped replied

@@ -4,7 +4,7 @@ use Prim.Native.Nat.{ℕ, zero, suc, _+_, _-_, _^_}
 use mathlib.Core.Bool.{Bool, true, false, _&&_}
 use mathlib.Core.List.{List, [], _∷_, _++_}
 use lib.Dec.{eqb}
-use lib.ListN.{take, getD}
+use lib.ListN.{take}
 use Rattle.lists.specs.Lists.{firstIndex}
 use Rattle.memory_access.specs.declared.MemoryAccessWidth.the-variants.{U8, U64}
 use Rattle.memory_access.specs.Syndrome.{decodeAccess, numberOf, valuesOf}

@@ -1,63 +1,50 @@
 -- Laws of ranges and regions stored in place: to store what stands there changes nothing. Assumes nothing.
-use Prim.Native.Nat.{ℕ, zero, suc, _+_, _*_, _<_, _≤_}
+use Prim.Native.Nat.{ℕ, suc, _+_, _<_, _≤_}
 use mathlib.Core.Path.{_≡_, refl, sym, ap, _∙_}
 use mathlib.Core.List.{List, [], _∷_}
 use native.Mathlib.Omega.{arith}
 use native.Mathlib.Nat.{add-zero, zero-add}
-use borrow.Author.Tests.{le-ltb, ne-eqb}
-use lib.Dec.{eqb}
 use lib.ListN.{length, set}
-use Rattle.lent_words.specs.Words.{wordAt, withWord, each, storeEach, wordsAt, withWords, readCode, keptCode, Lent}
+use Rattle.lent_words.specs.Words.{wordAt, withWord, each, storeEach, wordsAt, withWords, keptCode, Lent}
 use Rattle.lent_words.proofs.RoundTrip.{words-beside, code-kept, lent-words}
 use Rattle.lent_words.proofs.InPlace.{words-rewritten, one-stored, word-comm}
 use Rattle.stage2_range.specs.declared.Stage2Range.{Stage2Range}
 use Rattle.stage2_range.specs.declared.MemoryAccessRegion.{MemoryAccessRegion}
-use Rattle.stage2_range.specs.Registry.{handlerNumber}
-use Rattle.stage2.specs.Policy.{handlerOf, isHandler}
-use Rattle.lent_policy.specs.Layout.{rangeAt, withRange, regionAt, withRegion, withAllowed}
-use Rattle.lent_policy.proofs.Records.{rangeWords, regionWords, range-beside}
-
--- the number of the handler that a word means is the word as a code
-pub handler-read : (word : ℕ) → handlerNumber (handlerOf word) ≡ readCode 2 word
-handler-read zero = refl
-handler-read (suc zero) = refl
-handler-read (suc (suc word)) = rw (le-ltb (suc (suc word)) 2 (omega arith))
-
--- a number names a handler where it is the number of the handler that it names
-pub handler-named : (number : ℕ) → eqb (handlerNumber (handlerOf number)) number ≡ isHandler number
-handler-named zero = refl
-handler-named (suc zero) = refl
-handler-named (suc (suc number)) = rw (le-ltb (suc (suc number)) 2 (omega arith), ne-eqb 0 (suc (suc number)) (λ e. omega arith))
+use Rattle.stage2_range.specs.Ranges.{rangeWords}
+use Rattle.stage2_range.specs.Handlers.{handlers, handlerOf}
+use Rattle.stage2_range.proofs.Handlers.{named-number}
+use Rattle.lent_policy.specs.Layout.{policySize, rangeStart, allowedCountAt, regionStart, rangeAt, withRange, regionAt, keptHandler, regionStored, withRegion, withAllowed}
+use Rattle.lent_policy.proofs.Records.{range-beside}
 
 -- to write the handler that a word means keeps the word
-handler-kept : (word : ℕ) → keptCode 2 word (handlerNumber (handlerOf word)) ≡ word
-handler-kept word = ap (keptCode 2 word) (handler-read word) ∙ code-kept 2 word
+handler-kept : (word : ℕ) → keptHandler word (handlerOf word) ≡ word
+handler-kept word = ap (keptCode (length handlers) word) (named-number word) ∙ code-kept (length handlers) word
 
-module _ (b : List ℕ) (k : ℕ) (lent : Lent 1680 b) where
+module _ (b : List ℕ) (k : ℕ) (lent : Lent policySize b) where
   -- to store the range that stands at a place changes nothing
   pub range-rewritten : withRange b k (rangeAt b k) ≡ b
   unfolding withRange rangeAt
-  range-rewritten = ap (withWords b (4 * k)) there ∙ words-rewritten b (4 * k) 4 (lent .bytes)
+  range-rewritten = ap (withWords b (rangeStart k)) there ∙ words-rewritten b (rangeStart k) 4 (lent .bytes)
     where
-      there : rangeWords (rangeAt b k) ≡ wordsAt b (4 * k) 4
-      there = rw (add-zero (4 * k))
+      there : rangeWords (rangeAt b k) ≡ wordsAt b (rangeStart k) 4
+      there = rw (add-zero (rangeStart k))
 
   -- nor does it of a region
   pub region-rewritten : withRegion b k (regionAt b k) ≡ b
   unfolding withRegion regionAt
-  region-rewritten = ap (withWords b (129 + 5 * k)) there ∙ words-rewritten b (129 + 5 * k) 5 (lent .bytes)
+  region-rewritten = ap (withWords b (regionStart k)) there ∙ words-rewritten b (regionStart k) 5 (lent .bytes)
     where
-      there : regionWords b k (regionAt b k) ≡ wordsAt b (129 + 5 * k) 5
-      there = rw (add-zero (129 + 5 * k), handler-kept (wordAt b (129 + 5 * k + 3)), handler-kept (wordAt b (129 + 5 * k + 4)))
+      there : regionStored b k (regionAt b k) ≡ wordsAt b (regionStart k) 5
+      there = rw (add-zero (regionStart k), handler-kept (wordAt b (regionStart k + 3)), handler-kept (wordAt b (regionStart k + 4)))
 
 -- lent bytes are lent bytes with another range, and with another region
-pub range-lent : (b : List ℕ) (k : ℕ) (r : Stage2Range) → Lent 1680 b → Lent 1680 (withRange b k r)
+pub range-lent : (b : List ℕ) (k : ℕ) (r : Stage2Range) → Lent policySize b → Lent policySize (withRange b k r)
 unfolding withRange
-range-lent b k r lent = lent-words b (4 * k) (rangeWords r) lent
+range-lent b k r lent = lent-words b (rangeStart k) (rangeWords r) lent
 
-pub region-lent : (b : List ℕ) (k : ℕ) (r : MemoryAccessRegion) → Lent 1680 b → Lent 1680 (withRegion b k r)
+pub region-lent : (b : List ℕ) (k : ℕ) (r : MemoryAccessRegion) → Lent policySize b → Lent policySize (withRegion b k r)
 unfolding withRegion
-region-lent b k r lent = lent-words b (129 + 5 * k) (regionWords b k r) lent
+region-lent b k r lent = lent-words b (regionStart k) (regionStored b k r) lent
 
 -- words stored at places that lie apart, in either order
 words-comm : (ws vs : List ℕ) (b : List ℕ) (at to : ℕ) → ((j i : ℕ) → j < length ws → i < length vs → at + j ≡ to + i → ⊥)
@@ -89,23 +76,23 @@ pub region-comm : (b : List ℕ) (i : ℕ) (x : MemoryAccessRegion) (j : ℕ) (y
     → withRegion (withRegion b i x) j y ≡ withRegion (withRegion b j y) i x
 unfolding withRegion
 region-comm b i x j y h =
-    ap (withWords (withWords b (129 + 5 * i) (regionWords b i x)) (129 + 5 * j)) (kept i x j y h)
-    ∙ words-comm (regionWords b i x) (regionWords b j y) b (129 + 5 * i) (129 + 5 * j) (λ k m l u e. omega arith)
-    ∙ ap (withWords (withWords b (129 + 5 * j) (regionWords b j y)) (129 + 5 * i)) (sym (kept j y i x (λ e. h (sym e))))
+    ap (withWords (withWords b (regionStart i) (regionStored b i x)) (regionStart j)) (kept i x j y h)
+    ∙ words-comm (regionStored b i x) (regionStored b j y) b (regionStart i) (regionStart j) (λ k m l u e. omega arith)
+    ∙ ap (withWords (withWords b (regionStart j) (regionStored b j y)) (regionStart i)) (sym (kept j y i x (λ e. h (sym e))))
   where
     kept : (i : ℕ) (x : MemoryAccessRegion) (j : ℕ) (y : MemoryAccessRegion) → (i ≡ j → ⊥)
-        → regionWords (withWords b (129 + 5 * i) (regionWords b i x)) j y ≡ regionWords b j y
+        → regionStored (withWords b (regionStart i) (regionStored b i x)) j y ≡ regionStored b j y
     kept i x j y h =
         rw (
-          words-beside b (129 + 5 * i) (regionWords b i x) (129 + 5 * j + 3) (omega arith),
-          words-beside b (129 + 5 * i) (regionWords b i x) (129 + 5 * j + 4) (omega arith),
+          words-beside b (regionStart i) (regionStored b i x) (regionStart j + 3) (omega arith),
+          words-beside b (regionStart i) (regionStored b i x) (regionStart j + 4) (omega arith),
         )
 
 -- ranges of which one differs are stored by one store
-pub range-stored : (b : List ℕ) (k : ℕ) (r : Stage2Range) (count : ℕ) → Lent 1680 b → k < 32
-    → withAllowed b (set (each (rangeAt b) 0 32) k r) count ≡ withWord (withRange b k r) 128 count
+pub range-stored : (b : List ℕ) (k : ℕ) (r : Stage2Range) (count : ℕ) → Lent policySize b → k < 32
+    → withAllowed b (set (each (rangeAt b) 0 32) k r) count ≡ withWord (withRange b k r) allowedCountAt count
 unfolding withAllowed
 range-stored b k r count lent h =
-    ap (λ (c : List ℕ). withWord c 128 count)
-    (one-stored rangeAt withRange (Lent 1680) range-lent range-rewritten range-beside b 0 32 k r h lent
+    ap (λ (c : List ℕ). withWord c allowedCountAt count)
+    (one-stored rangeAt withRange (Lent policySize) range-lent range-rewritten range-beside b 0 32 k r h lent
     ∙ ap (λ (j : ℕ). withRange b j r) (zero-add k))

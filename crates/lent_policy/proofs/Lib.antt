@@ -3,4 +3,5 @@ pub mod Records
 pub mod States
 pub mod InPlace
 pub mod Insertion
-pub mod Find
+pub mod Search
+pub mod Calls

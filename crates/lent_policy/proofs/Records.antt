@@ -1,21 +1,26 @@
 -- Laws of ranges and regions in lent bytes: what was stored is read back, and what stands beside it is as it was. Assumes nothing.
-use Prim.Native.Nat.{ℕ, _+_, _*_, _<_}
+use Prim.Native.Nat.{ℕ, _+_, _<_}
 use mathlib.Core.Path.{_≡_, refl, ap, _∙_}
 use mathlib.Core.List.{List, [], _∷_}
+use mathlib.Core.Bool.{Bool, true, false, cond}
 use native.Mathlib.Omega.{arith}
+use borrow.Author.Tests.{ltb-false}
+use lib.Dec.{ltb}
 use native.Mathlib.Nat.{add-zero, zero-add}
 use lib.ListN.{length, getD, List·getD-eq-default}
-use Rattle.lent_words.specs.Words.{wordAt, each, keptCode, FitsWord, Lent}
+use Rattle.lent_words.specs.Words.{wordAt, each, FitsWord, Bytes, Lent}
 use Rattle.lent_words.proofs.Words.{getD-each}
 use Rattle.lent_words.proofs.RoundTrip.{Every, words-beside, word-fits, code-fits, meaning-back}
 use Rattle.lent_words.proofs.Records.{InWords, record-written, record-kept}
 use Rattle.stage2_range.specs.declared.Stage2Range.{Stage2Range}
 use Rattle.stage2_range.specs.declared.MemoryAccessRegion.{MemoryAccessRegion}
 use Rattle.stage2_range.specs.declared.MemoryHandler.{MemoryHandler}
-use Rattle.stage2_range.specs.declared.MemoryHandler.the-variants.{Absent, FilteredMmio}
-use Rattle.stage2_range.specs.Registry.{handlerNumber}
-use Rattle.stage2.specs.Policy.{handlers, handlerOf}
-use Rattle.lent_policy.specs.Layout.{rangeAt, withRange, regionAt, withRegion}
+use Rattle.stage2_range.specs.declared.MemoryHandler.the-variants.{Absent}
+use Rattle.stage2_range.specs.Ranges.{largestEnd, pageRange, rangeOf, rangeWords}
+use Rattle.stage2_range.specs.Handlers.{handlers, handlerOf, handlerNumber}
+use Rattle.stage2_range.specs.Registry.{regionOf}
+use Rattle.stage2_range.proofs.Handlers.{handler-code}
+use Rattle.lent_policy.specs.Layout.{policySize, rangeStart, allowedCountAt, regionStart, regionCountAt, rangeAt, withRange, regionAt, keptHandler, regionStored, withRegion}
 
 -- one of the thirty-two ranges
 pub range-of : (policy : List ℕ) (k : ℕ) (d : Stage2Range) → k < 32 → getD (each (rangeAt policy) 0 32) k d ≡ rangeAt policy k
@@ -25,15 +30,11 @@ range-of policy k d h = getD-each (rangeAt policy) 0 32 k d h ∙ ap (rangeAt po
 pub region-of : (policy : List ℕ) (k : ℕ) (d : MemoryAccessRegion) → k < 16 → getD (each (regionAt policy) 0 16) k d ≡ regionAt policy k
 region-of policy k d h = getD-each (regionAt policy) 0 16 k d h ∙ ap (regionAt policy) (zero-add k)
 
--- the number of a handler is a code that means it
-pub handler-code : (h : MemoryHandler) → (handlerNumber h < 2) × (handlerOf (handlerNumber h) ≡ h)
-handler-code Absent = (omega arith, refl)
-handler-code FilteredMmio = (omega arith, refl)
-
 -- a handler that was written is read back
-pub handler-back : (old : ℕ) (h : MemoryHandler) → handlerOf (keptCode 2 old (handlerNumber h)) ≡ h
+pub handler-back : (old : ℕ) (h : MemoryHandler) → handlerOf (keptHandler old h) ≡ h
 handler-back old h =
-    meaning-back handlerOf 2 (λ w l. List·getD-eq-default handlers Absent {n = w} l) old (handlerNumber h) (handler-code h .0) ∙ handler-code h .1
+    meaning-back handlerOf (length handlers) (λ w l. List·getD-eq-default handlers Absent {n = w} l) old (handlerNumber h) (handler-code h .0)
+    ∙ handler-code h .1
 
 -- the range that words make
 abbrev pub rangeFrom : List ℕ → Stage2Range
@@ -49,28 +50,14 @@ regionFrom ws = record {
 }
 
 -- a range stands in four words
-pub range-in : (k : ℕ) → InWords (λ c. rangeAt c k) rangeFrom (4 * k) 4
+pub range-in : (k : ℕ) → InWords (λ c. rangeAt c k) rangeFrom (rangeStart k) 4
 unfolding rangeAt
-range-in k = record { reads = λ c. rw (add-zero (4 * k)) }
+range-in k = record { reads = λ c. rw (add-zero (rangeStart k)) }
 
 -- a region stands in five words
-pub region-in : (k : ℕ) → InWords (λ c. regionAt c k) regionFrom (129 + 5 * k) 5
+pub region-in : (k : ℕ) → InWords (λ c. regionAt c k) regionFrom (regionStart k) 5
 unfolding regionAt
-region-in k = record { reads = λ c. rw (add-zero (129 + 5 * k)) }
-
--- the words that a range is stored as
-abbrev pub rangeWords : Stage2Range → List ℕ
-rangeWords r = r .«base_ipa» ∷ r .size ∷ r .«end_ipa» ∷ r .attributes ∷ []
-
--- the words that a region is stored as
-abbrev pub regionWords : List ℕ → ℕ → MemoryAccessRegion → List ℕ
-regionWords b k r =
-    r .«base_ipa»
-    ∷ r .size
-    ∷ r .«end_ipa»
-    ∷ keptCode 2 (wordAt b (129 + 5 * k + 3)) (handlerNumber (r .handler .read))
-    ∷ keptCode 2 (wordAt b (129 + 5 * k + 4)) (handlerNumber (r .handler .write))
-    ∷ []
+region-in k = record { reads = λ c. rw (add-zero (regionStart k)) }
 
 -- the numbers of a range fit words
 abbrev pub RangeFits : Stage2Range → Type 0
@@ -80,51 +67,79 @@ RangeFits r = Every FitsWord (rangeWords r)
 abbrev pub RegionFits : MemoryAccessRegion → Type 0
 RegionFits r = Every FitsWord (r .«base_ipa» ∷ r .size ∷ r .«end_ipa» ∷ [])
 
+-- those of the range and of the region that a call asks for do
+end-fits : (base size : ℕ) → FitsWord base → FitsWord (pageRange base size .«end_ipa»)
+end-fits base size f = go (ltb largestEnd (base + size)) refl
+  where
+    go : (b : Bool) → ltb largestEnd (base + size) ≡ b → FitsWord (cond b base (base + size))
+    go true e = f
+    go false e = omega (arith, ltb-false largestEnd (base + size) e)
+
+pub asked-range-fits : (base size attributes : ℕ) → FitsWord base → FitsWord size → FitsWord attributes
+    → RangeFits (rangeOf base size attributes)
+asked-range-fits base size attributes f g h = (f, (g, (end-fits base size f, (h, tt))))
+
+pub asked-region-fits : (base size read write : ℕ) → FitsWord base → FitsWord size → RegionFits (regionOf base size read write)
+asked-region-fits base size read write f g = (f, (g, (end-fits base size f, tt)))
+
+-- those of what bytes hold do
+pub range-fits : (b : List ℕ) → Bytes b → (k : ℕ) → RangeFits (rangeAt b k)
+unfolding rangeAt
+range-fits b h k =
+    let at = rangeStart k in
+    (word-fits b at h, (word-fits b (at + 1) h, (word-fits b (at + 2) h, (word-fits b (at + 3) h, tt))))
+
+pub region-fits : (b : List ℕ) → Bytes b → (k : ℕ) → RegionFits (regionAt b k)
+unfolding regionAt
+region-fits b h k =
+    let at = regionStart k in
+    (word-fits b at h, (word-fits b (at + 1) h, (word-fits b (at + 2) h, tt)))
+
 -- A record that is stored at place `k`.
 module _ (b : List ℕ) (k : ℕ) where
   -- the range is read back
-  pub range-back : (r : Stage2Range) → length b ≡ 1680 → k < 32 → RangeFits r → rangeAt (withRange b k r) k ≡ r
+  pub range-back : (r : Stage2Range) → length b ≡ policySize → k < 32 → RangeFits r → rangeAt (withRange b k r) k ≡ r
   unfolding withRange
   range-back r long h fits = record-written (range-in k) b (rangeWords r) refl (omega arith) fits
 
   -- the region is read back
-  pub region-back : (r : MemoryAccessRegion) → Lent 1680 b → k < 16 → RegionFits r → regionAt (withRegion b k r) k ≡ r
+  pub region-back : (r : MemoryAccessRegion) → Lent policySize b → k < 16 → RegionFits r → regionAt (withRegion b k r) k ≡ r
   unfolding withRegion
   region-back r lent h fits =
-      record-written (region-in k) b (regionWords b k r) refl (omega arith)
-      (omega (arith, code (r .handler .read) (129 + 5 * k + 3), code (r .handler .write) (129 + 5 * k + 4)))
-      ∙ rw (handler-back (wordAt b (129 + 5 * k + 3)) (r .handler .read), handler-back (wordAt b (129 + 5 * k + 4)) (r .handler .write))
+      record-written (region-in k) b (regionStored b k r) refl (omega arith)
+      (omega (arith, code (r .handler .read) (regionStart k + 3), code (r .handler .write) (regionStart k + 4)))
+      ∙ rw (handler-back (wordAt b (regionStart k + 3)) (r .handler .read), handler-back (wordAt b (regionStart k + 4)) (r .handler .write))
     where
-      code : (h : MemoryHandler) (i : ℕ) → FitsWord (keptCode 2 (wordAt b i) (handlerNumber h))
-      code h i = code-fits 2 (wordAt b i) (handlerNumber h) (word-fits b i (lent .bytes)) (omega (arith, handler-code h))
+      code : (h : MemoryHandler) (i : ℕ) → FitsWord (keptHandler (wordAt b i) h)
+      code h i = code-fits (length handlers) (wordAt b i) (handlerNumber h) (word-fits b i (lent .bytes)) (omega (arith, handler-code h))
 
   -- the other ranges are as they were
   pub range-beside : (r : Stage2Range) (k′ : ℕ) → (k ≡ k′ → ⊥) → rangeAt (withRange b k r) k′ ≡ rangeAt b k′
   unfolding withRange
-  range-beside r k′ h = record-kept (range-in k′) b (4 * k) (rangeWords r) (omega arith)
+  range-beside r k′ h = record-kept (range-in k′) b (rangeStart k) (rangeWords r) (omega arith)
 
   -- the other regions are as they were
   pub region-beside : (r : MemoryAccessRegion) (k′ : ℕ) → (k ≡ k′ → ⊥) → regionAt (withRegion b k r) k′ ≡ regionAt b k′
   unfolding withRegion
-  region-beside r k′ h = record-kept (region-in k′) b (129 + 5 * k) (regionWords b k r) (omega arith)
+  region-beside r k′ h = record-kept (region-in k′) b (regionStart k) (regionStored b k r) (omega arith)
 
   -- a range leaves the regions as they were
   pub range-region : (r : Stage2Range) (k′ : ℕ) → k < 32 → regionAt (withRange b k r) k′ ≡ regionAt b k′
   unfolding withRange
-  range-region r k′ h = record-kept (region-in k′) b (4 * k) (rangeWords r) (omega arith)
+  range-region r k′ h = record-kept (region-in k′) b (rangeStart k) (rangeWords r) (omega arith)
 
   -- a range leaves both counts as they were
-  pub range-counts : (r : Stage2Range) → k < 32 → (wordAt (withRange b k r) 128 ≡ wordAt b 128) × (wordAt (withRange b k r) 209 ≡ wordAt b 209)
+  pub range-counts : (r : Stage2Range) → k < 32 → (wordAt (withRange b k r) allowedCountAt ≡ wordAt b allowedCountAt) × (wordAt (withRange b k r) regionCountAt ≡ wordAt b regionCountAt)
   unfolding withRange
-  range-counts r h = (words-beside b (4 * k) (rangeWords r) 128 (omega arith), words-beside b (4 * k) (rangeWords r) 209 (omega arith))
+  range-counts r h = (words-beside b (rangeStart k) (rangeWords r) allowedCountAt (omega arith), words-beside b (rangeStart k) (rangeWords r) regionCountAt (omega arith))
 
   -- a region leaves the ranges as they were
   pub region-range : (r : MemoryAccessRegion) (k′ : ℕ) → k′ < 32 → rangeAt (withRegion b k r) k′ ≡ rangeAt b k′
   unfolding withRegion
-  region-range r k′ h = record-kept (range-in k′) b (129 + 5 * k) (regionWords b k r) (omega arith)
+  region-range r k′ h = record-kept (range-in k′) b (regionStart k) (regionStored b k r) (omega arith)
 
   -- a region leaves both counts as they were
-  pub region-counts : (r : MemoryAccessRegion) → k < 16 → (wordAt (withRegion b k r) 128 ≡ wordAt b 128) × (wordAt (withRegion b k r) 209 ≡ wordAt b 209)
+  pub region-counts : (r : MemoryAccessRegion) → k < 16 → (wordAt (withRegion b k r) allowedCountAt ≡ wordAt b allowedCountAt) × (wordAt (withRegion b k r) regionCountAt ≡ wordAt b regionCountAt)
   unfolding withRegion
   region-counts r h =
-      (words-beside b (129 + 5 * k) (regionWords b k r) 128 (omega arith), words-beside b (129 + 5 * k) (regionWords b k r) 209 (omega arith))
+      (words-beside b (regionStart k) (regionStored b k r) allowedCountAt (omega arith), words-beside b (regionStart k) (regionStored b k r) regionCountAt (omega arith))

@@ -1,19 +1,42 @@
 -- Where the words of a policy stand in the bytes that a host lends. Any bytes are a policy. Assumes nothing.
 use Prim.Native.Nat.{ℕ, _+_, _*_}
-use mathlib.Core.Bool.{cond}
 use mathlib.Core.List.{List, [], _∷_}
-use lib.Dec.{ltb}
+use lib.ListN.{length}
 use Rattle.lent_words.specs.Words.{wordAt, withWord, each, storeEach, withWords, keptCode}
+use Rattle.stage2_range.specs.declared.PageRange.{PageRange}
 use Rattle.stage2_range.specs.declared.Stage2Range.{Stage2Range}
 use Rattle.stage2_range.specs.declared.MemoryAccessRegion.{MemoryAccessRegion}
-use Rattle.stage2_range.specs.Registry.{handlerNumber}
+use Rattle.stage2_range.specs.declared.MemoryHandler.{MemoryHandler}
+use Rattle.stage2_range.specs.Ranges.{rangeWords}
+use Rattle.stage2_range.specs.Handlers.{handlers, handlerOf, handlerNumber}
 use Rattle.stage2.specs.declared.Policy.{Policy}
-use Rattle.stage2.specs.Policy.{handlerOf}
 
--- An allowed range is 4 words: base, size, end, attributes. The 32 stand from word 0 on, their count at word 128.
+-- An allowed range is 4 words: base, size, end, attributes. The 32 stand from word 0 on, and their count after them.
+abbrev pub rangeStart : ℕ → ℕ
+rangeStart k = 4 * k
+
+abbrev pub allowedCountAt : ℕ
+allowedCountAt = rangeStart 32
+
+-- A region is 5 words: base, size, end, and the codes of its read and its write handler, an unknown one absent. The 16 stand after the
+-- count of the ranges, and their count after them.
+abbrev pub regionStart : ℕ → ℕ
+regionStart k = (allowedCountAt + 1) + 5 * k
+
+abbrev pub regionCountAt : ℕ
+regionCountAt = regionStart 16
+
+-- the length of the buffer, in bytes
+abbrev pub policySize : ℕ
+policySize = 8 * (regionCountAt + 1)
+
+-- the bytes of the range or the region whose words begin at a place
+abbrev pub bytesAt : List ℕ → ℕ → PageRange
+bytesAt policy at = record { «base_ipa» = wordAt policy at; «end_ipa» = wordAt policy (at + 2) }
+
 unfoldable pub rangeAt : List ℕ → ℕ → Stage2Range
 rangeAt policy k =
-    let at = 4 * k in
+    let at = rangeStart k in
     record {
       «base_ipa» = wordAt policy at;
       size = wordAt policy (at + 1);
@@ -22,13 +45,11 @@ rangeAt policy k =
     }
 
 unfoldable pub withRange : List ℕ → ℕ → Stage2Range → List ℕ
-withRange policy k r = withWords policy (4 * k) (r .«base_ipa» ∷ r .size ∷ r .«end_ipa» ∷ r .attributes ∷ [])
+withRange policy k r = withWords policy (rangeStart k) (rangeWords r)
 
--- A region is 5 words: base, size, end, and the codes of its read and its write handler, an unknown one absent. The 16 stand from word 129
--- on, their count at word 209.
 unfoldable pub regionAt : List ℕ → ℕ → MemoryAccessRegion
 regionAt policy k =
-    let at = 129 + 5 * k in
+    let at = regionStart k in
     record {
       «base_ipa» = wordAt policy at;
       size = wordAt policy (at + 1);
@@ -36,37 +57,40 @@ regionAt policy k =
       «end_ipa» = wordAt policy (at + 2);
     }
 
-unfoldable pub withRegion : List ℕ → ℕ → MemoryAccessRegion → List ℕ
-withRegion policy k r =
-    let at = 129 + 5 * k in
-    withWords policy at
-    (r .«base_ipa»
+-- the word to write for a handler: a word that means it stays
+abbrev pub keptHandler : ℕ → MemoryHandler → ℕ
+keptHandler word h = keptCode (length handlers) word (handlerNumber h)
+
+-- the words that a region is stored as
+abbrev pub regionStored : List ℕ → ℕ → MemoryAccessRegion → List ℕ
+regionStored policy k r =
+    let at = regionStart k in
+    r .«base_ipa»
     ∷ r .size
     ∷ r .«end_ipa»
-    ∷ keptCode 2 (wordAt policy (at + 3)) (handlerNumber (r .handler .read))
-    ∷ keptCode 2 (wordAt policy (at + 4)) (handlerNumber (r .handler .write))
-    ∷ [])
+    ∷ keptHandler (wordAt policy (at + 3)) (r .handler .read)
+    ∷ keptHandler (wordAt policy (at + 4)) (r .handler .write)
+    ∷ []
 
--- the base of the region at a place, and 0 where there is no such place
-abbrev pub regionBase : List ℕ → ℕ → ℕ
-regionBase policy k = cond (ltb k 16) (regionAt policy k .«base_ipa») 0
+unfoldable pub withRegion : List ℕ → ℕ → MemoryAccessRegion → List ℕ
+withRegion policy k r = withWords policy (regionStart k) (regionStored policy k r)
 
--- the policy that 210 words hold
+-- the policy that the words hold
 unfoldable pub policyAt : List ℕ → Policy
 policyAt policy = record {
   allowed = each (rangeAt policy) 0 32;
-  «allowed_count» = wordAt policy 128;
+  «allowed_count» = wordAt policy allowedCountAt;
   regions = each (regionAt policy) 0 16;
-  «region_count» = wordAt policy 209;
+  «region_count» = wordAt policy regionCountAt;
 }
 
 -- the bytes with these allowed ranges, the regions as they were
 unfoldable pub withAllowed : List ℕ → List Stage2Range → ℕ → List ℕ
-withAllowed policy allowed count = withWord (storeEach withRange policy 0 allowed) 128 count
+withAllowed policy allowed count = withWord (storeEach withRange policy 0 allowed) allowedCountAt count
 
 -- the bytes with these regions, the allowed ranges as they were
 unfoldable pub withRegions : List ℕ → List MemoryAccessRegion → ℕ → List ℕ
-withRegions policy regions count = withWord (storeEach withRegion policy 0 regions) 209 count
+withRegions policy regions count = withWord (storeEach withRegion policy 0 regions) regionCountAt count
 
 -- the bytes with another policy's allowed ranges, or with its regions
 abbrev pub withAllowedOf : List ℕ → Policy → List ℕ

@@ -1,2 +1,3 @@
 -- What the contracts say of the policy in lent bytes.
 pub mod Layout
+pub mod Calls

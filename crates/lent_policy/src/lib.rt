@@ -1,49 +1,65 @@
 // Where the bytes that a host lends hold the policy: little-endian 64-bit words at fixed places. Any bytes are a policy.
 ghost use mathlib.Core.Path.{_≡_};
-ghost use Prim.Native.Nat.{_+_, _^_, _≤_, _<_};
+ghost use mathlib.Core.List.{[]};
+ghost use Prim.Native.Nat.{_+_, _≤_, _<_, min};
 ghost use lib.Dec.{leb};
 ghost use lib.ListN.{set};
 ghost use Rattle.lists.specs.Lists.{firstIndex, insertAt};
-ghost use Rattle.lent_words.specs.Words.{wordAt, each, storeEach, unlessRefused};
-ghost use Rattle.stage2_range.specs.Ranges.{resultNumber, sharesByte, overlapsAllowed};
-ghost use Rattle.stage2_range.specs.Registry.{handlerNumber, hasAddress, overlapsRegions, findRegion, insertRegion};
-ghost use Rattle.stage2.specs.Policy.{isHandler, allowedHeld, regionsHeld, regionOf, allowAnswerFor, allowRange, handleAnswerFor, handleRange};
-ghost use Rattle.lent_policy.specs.Layout.{rangeAt, regionAt, regionBase, policyAt, withRange, withRegion, withAllowed, withRegions, withAllowedOf, withRegionsOf};
+ghost use Rattle.lent_words.specs.Words.{wordAt, each, storeEach, Leaves};
+ghost use Rattle.stage2_range.specs.Ranges.{hasByte, sharesByte, overlapsAllowed};
+ghost use Rattle.stage2_range.specs.Registry.{hasAddress, overlapsRegions, findRegion, insertRegion};
+ghost use Rattle.stage2.specs.Policy.{allowedHeld, regionsHeld, allowAnswerFor, allowAnswer, handleAnswerFor, handleAnswer};
+ghost use Rattle.lent_policy.specs.Layout.{allowedCountAt, regionCountAt, bytesAt, rangeAt, regionAt, keptHandler, policyAt, withRange, withRegion, withAllowed, withRegions};
+ghost use Rattle.lent_policy.specs.Calls.{allowCall, handleCall, findCall};
+use lent_words::THREE_WORDS;
 use memory_access::Ipa;
 use stage2_range::MAX_ALLOWED_RANGES;
 use stage2_range::MAX_MEMORY_ACCESS_HANDLERS;
+use stage2_range::MEMORY_HANDLERS;
 use stage2_range::MemoryAccessHandler;
 use stage2_range::MemoryAccessHandlerMatch;
 use stage2_range::MemoryAccessRegion;
 use stage2_range::MemoryHandler;
+use stage2_range::PageRange;
 use stage2_range::RegionFound;
 use stage2_range::Stage2ConfigError;
 use stage2_range::Stage2Range;
 use stage2_range::Stage2Result;
 
-// The length of the policy's buffer, in bytes.
-pub const POLICY_SIZE: usize = 1680;
+// The words of the policy's buffer: the allowed ranges, from the first on, and how many there are; the regions, and how many there are.
+const RANGE_WORDS: usize = 4;
 
-// The code of a handler.
-fn handler_number(handler: MemoryHandler) -> u64
-    ensures { λ r. ⌜ r ≡ handlerNumber handler ⌝ }
-{
-    match handler {
-        MemoryHandler::Absent => 0,
-        MemoryHandler::FilteredMmio => 1,
-    }
-}
+const ALLOWED_COUNT: usize = 32 * RANGE_WORDS;
+
+const REGIONS: usize = ALLOWED_COUNT + 1;
+
+const REGION_WORDS: usize = 5;
+
+const REGION_COUNT: usize = REGIONS + 16 * REGION_WORDS;
+
+// The length of the policy's buffer, in bytes.
+pub const POLICY_SIZE: usize = 8 * (REGION_COUNT + 1);
 
 // Stores an allowed range.
 fn put_range(policy: &mut [u8; POLICY_SIZE], place: usize, range: Stage2Range)
     requires { ⌜ place < 32 ⌝ }
     ensures { λ _. ⌜ now (policy .exit) ≡ withRange (now (policy .entry)) place range ⌝ }
 {
-    let at = 4 * place;
+    let at = RANGE_WORDS * place;
     lent_words::put_word(policy, at, range.base_ipa);
     lent_words::put_word(policy, at + 1, range.size);
     lent_words::put_word(policy, at + 2, range.end_ipa);
     lent_words::put_word(policy, at + 3, range.attributes);
+}
+
+// The bytes of the range or the region whose words begin at one: of the others none is read.
+fn get_bytes(policy: &[u8; POLICY_SIZE], at: usize) -> PageRange
+    requires { ⌜ at < 208 ⌝ }
+    ensures { λ r. ⌜ r ≡ bytesAt (now (policy .entry)) at ⌝ }
+{
+    let base_ipa = lent_words::get_word(policy, at);
+    let end_ipa = lent_words::get_word(policy, at + 2);
+    PageRange { base_ipa, end_ipa }
 }
 
 // A region.
@@ -51,10 +67,10 @@ fn get_region(policy: &[u8; POLICY_SIZE], place: usize) -> MemoryAccessRegion
     requires { ⌜ place < 16 ⌝ }
     ensures { λ r. ⌜ r ≡ regionAt (now (policy .entry)) place ⌝ }
 {
-    let at = 129 + 5 * place;
+    let at = REGIONS + REGION_WORDS * place;
     let handler = MemoryAccessHandler {
-        read: stage2::memory_handler(lent_words::get_word(policy, at + 3)),
-        write: stage2::memory_handler(lent_words::get_word(policy, at + 4)),
+        read: MemoryHandler::from_number(lent_words::get_word(policy, at + 3)),
+        write: MemoryHandler::from_number(lent_words::get_word(policy, at + 4)),
     };
     MemoryAccessRegion {
         base_ipa: lent_words::get_word(policy, at),
@@ -64,25 +80,28 @@ fn get_region(policy: &[u8; POLICY_SIZE], place: usize) -> MemoryAccessRegion
     }
 }
 
+// The word to store for a handler: the one that stands there stays if it means the handler.
+fn kept_handler(policy: &[u8; POLICY_SIZE], at: usize, handler: MemoryHandler) -> u64
+    ensures { λ r. ⌜ r ≡ keptHandler (wordAt (now (policy .entry)) at) handler ⌝ }
+{
+    lent_words::kept_code(
+        lent_words::get_word(policy, at),
+        MEMORY_HANDLERS,
+        handler.number(),
+    )
+}
+
 // Stores a region.
 fn put_region(policy: &mut [u8; POLICY_SIZE], place: usize, region: MemoryAccessRegion)
     requires { ⌜ place < 16 ⌝ }
     ensures { λ _. ⌜ now (policy .exit) ≡ withRegion (now (policy .entry)) place region ⌝ }
 {
-    let at = 129 + 5 * place;
+    let at = REGIONS + REGION_WORDS * place;
     let handler = region.handler;
     let read = handler.read;
     let write = handler.write;
-    let read_code = lent_words::kept_code(
-        lent_words::get_word(policy, at + 3),
-        2,
-        handler_number(read),
-    );
-    let write_code = lent_words::kept_code(
-        lent_words::get_word(policy, at + 4),
-        2,
-        handler_number(write),
-    );
+    let read_code = kept_handler(policy, at + 3, read);
+    let write_code = kept_handler(policy, at + 4, write);
     lent_words::put_word(policy, at, region.base_ipa);
     lent_words::put_word(policy, at + 1, region.size);
     lent_words::put_word(policy, at + 2, region.end_ipa);
@@ -92,38 +111,56 @@ fn put_region(policy: &mut [u8; POLICY_SIZE], place: usize, region: MemoryAccess
 
 // How many ranges there are, as the bytes say.
 fn get_allowed_count(policy: &[u8; POLICY_SIZE]) -> u64
-    ensures { λ r. ⌜ r ≡ wordAt (now (policy .entry)) 128 ⌝ }
+    ensures { λ r. ⌜ r ≡ wordAt (now (policy .entry)) allowedCountAt ⌝ }
 {
-    lent_words::get_word(policy, 128)
+    lent_words::get_word(policy, ALLOWED_COUNT)
+}
+
+// How many of them are held.
+fn allowed_held(policy: &[u8; POLICY_SIZE]) -> u64
+    ensures { λ r. ⌜ r ≡ min (wordAt (now (policy .entry)) allowedCountAt) 32 ⌝ }
+{
+    lists::held_count(get_allowed_count(policy), MAX_ALLOWED_RANGES)
 }
 
 // How many regions there are, as the bytes say.
-pub fn get_region_count(policy: &[u8; POLICY_SIZE]) -> u64
-    ensures { λ r. ⌜ r ≡ wordAt (now (policy .entry)) 209 ⌝ }
+fn get_region_count(policy: &[u8; POLICY_SIZE]) -> u64
+    ensures { λ r. ⌜ r ≡ wordAt (now (policy .entry)) regionCountAt ⌝ }
 {
-    lent_words::get_word(policy, 209)
+    lent_words::get_word(policy, REGION_COUNT)
 }
 
-// Whether a region has the address.
-fn region_has(policy: &[u8; POLICY_SIZE], place: usize, ipa: u64) -> bool
-    requires { ⌜ place < 16 ⌝ }
-    ensures { λ r. ⌜ r ≡ hasAddress ipa (regionAt (now (policy .entry)) place) ⌝ }
+// How many of them are held.
+fn regions_held(policy: &[u8; POLICY_SIZE]) -> u64
+    ensures { λ r. ⌜ r ≡ min (wordAt (now (policy .entry)) regionCountAt) 16 ⌝ }
 {
-    let at = 129 + 5 * place;
-    if ipa < lent_words::get_word(policy, at) {
-        return false;
-    }
-    ipa < lent_words::get_word(policy, at + 2)
+    lists::held_count(get_region_count(policy), MAX_MEMORY_ACCESS_HANDLERS)
+}
+
+// Whether the record has the address.
+fn has_byte(policy: &[u8; POLICY_SIZE], at: usize, ipa: u64) -> bool
+    requires { ⌜ at < 208 ⌝ }
+    ensures { λ r. ⌜ r ≡ hasByte (bytesAt (now (policy .entry)) at) ipa ⌝ }
+{
+    get_bytes(policy, at).has_byte(ipa)
+}
+
+// Whether the record shares a byte with the given bytes.
+fn shares_byte(policy: &[u8; POLICY_SIZE], at: usize, bytes: PageRange) -> bool
+    requires { ⌜ at < 208 ⌝ }
+    ensures { λ r. ⌜ r ≡ sharesByte (bytesAt (now (policy .entry)) at) bytes ⌝ }
+{
+    stage2_range::page_ranges_overlap(get_bytes(policy, at), bytes)
 }
 
 // The place of the first region held that has the address, and how many are held where none does.
-pub fn find_place(policy: &[u8; POLICY_SIZE], ipa: u64) -> u64
+fn find_place(policy: &[u8; POLICY_SIZE], ipa: u64) -> u64
     ensures { λ r. ⌜ r ≡ firstIndex (hasAddress ipa) (regionsHeld (policyAt (now (policy .entry)))) ⌝ }
 {
-    let held = lists::held_count(get_region_count(policy), 16);
+    let held = regions_held(policy);
     let mut place: u64 = 0;
     while place < held {
-        if region_has(policy, place as usize, ipa) {
+        if has_byte(policy, REGIONS + REGION_WORDS * (place as usize), ipa) {
             return place;
         }
         place += 1;
@@ -132,13 +169,11 @@ pub fn find_place(policy: &[u8; POLICY_SIZE], ipa: u64) -> u64
 }
 
 // The base of a region.
-pub fn get_region_base(policy: &[u8; POLICY_SIZE], place: u64) -> u64
-    ensures { λ r. ⌜ r ≡ regionBase (now (policy .entry)) place ⌝ }
+fn get_region_base(policy: &[u8; POLICY_SIZE], place: u64) -> u64
+    requires { ⌜ place < 16 ⌝ }
+    ensures { λ r. ⌜ r ≡ regionAt (now (policy .entry)) place .«base_ipa» ⌝ }
 {
-    if 16 <= place {
-        return 0;
-    }
-    lent_words::get_word(policy, 129 + 5 * (place as usize))
+    lent_words::get_word(policy, REGIONS + REGION_WORDS * (place as usize))
 }
 
 // The first region held that has the address, and the offset in it. No other region is read whole.
@@ -147,37 +182,38 @@ pub fn find_region(policy: &[u8; POLICY_SIZE], ipa: Ipa) -> RegionFound
 {
     let address = ipa.0;
     let place = find_place(policy, address);
-    if place < lists::held_count(get_region_count(policy), 16) {
-        let region = get_region(policy, place as usize);
-        return RegionFound::Match(MemoryAccessHandlerMatch {
-            region,
-            offset: address - region.base_ipa,
-        });
+    if regions_held(policy) <= place {
+        return RegionFound::Nothing;
     }
-    RegionFound::Nothing
+    let region = get_region(policy, place as usize);
+    RegionFound::Match(MemoryAccessHandlerMatch {
+        region,
+        offset: address - region.base_ipa,
+    })
 }
 
-// Whether a record whose base stands at a word, and its end two words further, shares a byte with the given range.
-fn shares_byte(policy: &[u8; POLICY_SIZE], at: usize, base_ipa: u64, end_ipa: u64) -> bool
-    requires { ⌜ at < 208 ⌝ }
-    ensures { λ r. ⌜ r ≡ sharesByte (wordAt (now (policy .entry)) at) (wordAt (now (policy .entry)) (at + 2)) «base_ipa» «end_ipa» ⌝ }
+// The first region held that has the address: whether there is one, its place and the offset in it.
+pub fn find(policy: &[u8; POLICY_SIZE], ipa: u64, result: &mut [u8; THREE_WORDS]) -> u64
+    ensures { λ r. ⌜ Leaves (findCall (now (policy .entry)) ipa) r (now (policy .entry)) (now (result .exit)) ⌝ }
 {
-    stage2_range::page_ranges_overlap(
-        lent_words::get_word(policy, at),
-        lent_words::get_word(policy, at + 2),
-        base_ipa,
-        end_ipa,
-    )
+    let place = find_place(policy, ipa);
+    if place < regions_held(policy) {
+        let offset = ipa - get_region_base(policy, place);
+        lent_words::put_three(result, 1, place, offset);
+        return 0;
+    }
+    lent_words::put_three(result, 0, 0, 0);
+    0
 }
 
-// Some allowed range that is held shares a byte with the given range.
-fn overlaps_allowed(policy: &[u8; POLICY_SIZE], base_ipa: u64, end_ipa: u64) -> bool
-    ensures { λ r. ⌜ r ≡ overlapsAllowed (allowedHeld (policyAt (now (policy .entry)))) «base_ipa» «end_ipa» ⌝ }
+// Some allowed range that is held shares a byte with the given bytes.
+fn overlaps_allowed(policy: &[u8; POLICY_SIZE], bytes: PageRange) -> bool
+    ensures { λ r. ⌜ r ≡ overlapsAllowed (allowedHeld (policyAt (now (policy .entry)))) bytes ⌝ }
 {
-    let held = lists::held_count(get_allowed_count(policy), MAX_ALLOWED_RANGES);
+    let held = allowed_held(policy);
     let mut place: u64 = 0;
     while place < held {
-        if shares_byte(policy, 4 * (place as usize), base_ipa, end_ipa) {
+        if shares_byte(policy, RANGE_WORDS * (place as usize), bytes) {
             return true;
         }
         place += 1;
@@ -185,14 +221,14 @@ fn overlaps_allowed(policy: &[u8; POLICY_SIZE], base_ipa: u64, end_ipa: u64) -> 
     false
 }
 
-// Some region that is held shares a byte with the given range.
-fn overlaps_regions(policy: &[u8; POLICY_SIZE], base_ipa: u64, end_ipa: u64) -> bool
-    ensures { λ r. ⌜ r ≡ overlapsRegions (regionsHeld (policyAt (now (policy .entry)))) «base_ipa» «end_ipa» ⌝ }
+// Some region that is held shares a byte with the given bytes.
+fn overlaps_regions(policy: &[u8; POLICY_SIZE], bytes: PageRange) -> bool
+    ensures { λ r. ⌜ r ≡ overlapsRegions (regionsHeld (policyAt (now (policy .entry)))) bytes ⌝ }
 {
-    let held = lists::held_count(get_region_count(policy), MAX_MEMORY_ACCESS_HANDLERS);
+    let held = regions_held(policy);
     let mut place: u64 = 0;
     while place < held {
-        if shares_byte(policy, 129 + 5 * (place as usize), base_ipa, end_ipa) {
+        if shares_byte(policy, REGIONS + REGION_WORDS * (place as usize), bytes) {
             return true;
         }
         place += 1;
@@ -204,13 +240,14 @@ fn overlaps_regions(policy: &[u8; POLICY_SIZE], base_ipa: u64, end_ipa: u64) -> 
 fn allow_answer_for(policy: &[u8; POLICY_SIZE], range: Stage2Range) -> Stage2Result
     ensures { λ r. ⌜ r ≡ allowAnswerFor (policyAt (now (policy .entry))) range ⌝ }
 {
+    let range_bytes = range.bytes();
     if MAX_ALLOWED_RANGES <= get_allowed_count(policy) {
         return Stage2Result::Refused(Stage2ConfigError::TooManyAllowedRanges);
     }
-    if overlaps_allowed(policy, range.base_ipa, range.end_ipa) {
+    if overlaps_allowed(policy, range_bytes) {
         return Stage2Result::Refused(Stage2ConfigError::AllowedRangeOverlap);
     }
-    if overlaps_regions(policy, range.base_ipa, range.end_ipa) {
+    if overlaps_regions(policy, range_bytes) {
         return Stage2Result::Refused(Stage2ConfigError::AllowedRangeOverlapsMemoryAccessHandler);
     }
     Stage2Result::Accepted
@@ -218,63 +255,57 @@ fn allow_answer_for(policy: &[u8; POLICY_SIZE], range: Stage2Range) -> Stage2Res
 
 // Stores a range after those that are held, and counts it.
 fn add_range(policy: &mut [u8; POLICY_SIZE], range: Stage2Range)
-    requires { ⌜ wordAt (now policy) 128 < 32 ⌝ }
-    ensures { λ _. ⌜ now (policy .exit) ≡ withAllowed (now (policy .entry)) (set (each (rangeAt (now (policy .entry))) 0 32) (wordAt (now (policy .entry)) 128) range) (wordAt (now (policy .entry)) 128 + 1) ⌝ }
+    requires { ⌜ wordAt (now policy) allowedCountAt < 32 ⌝ }
+    ensures { λ _. ⌜ now (policy .exit) ≡ withAllowed (now (policy .entry)) (set (each (rangeAt (now (policy .entry))) 0 32) (wordAt (now (policy .entry)) allowedCountAt) range) (wordAt (now (policy .entry)) allowedCountAt + 1) ⌝ }
 {
     lent_words::are_bytes(policy);
     let count = get_allowed_count(policy);
     put_range(policy, count as usize, range);
-    lent_words::put_word(policy, 128, count + 1);
+    lent_words::put_word(policy, ALLOWED_COUNT, count + 1);
 }
 
-// Allows the guest to access a range directly: refusals 1 to 7, in order. The range and the count are stored, and no other word.
-pub fn allow_range(
-    policy: &mut [u8; POLICY_SIZE],
+// Refusals 1 to 7, in order.
+fn allow_answer(
+    policy: &[u8; POLICY_SIZE],
     base_ipa: u64,
     size: u64,
     attributes: u64,
 ) -> Stage2Result
-    ensures { λ r. ⌜ (r ≡ allowRange (policyAt (now (policy .entry))) «base_ipa» size attributes .answer)
-        × (now (policy .exit) ≡ unlessRefused (resultNumber r) (now (policy .entry)) (withAllowedOf (now (policy .entry)) (allowRange (policyAt (now (policy .entry))) «base_ipa» size attributes .policy))) ⌝ }
+    ensures { λ r. ⌜ r ≡ allowAnswer (policyAt (now (policy .entry))) «base_ipa» size attributes ⌝ }
 {
     match stage2_range::validate_range(base_ipa, size) {
         Stage2Result::Refused(error) => Stage2Result::Refused(error),
         Stage2Result::Accepted => {
-            let range = Stage2Range {
-                base_ipa,
-                size,
-                end_ipa: base_ipa + size,
-                attributes,
-            };
-            match allow_answer_for(policy, range) {
-                Stage2Result::Refused(error) => Stage2Result::Refused(error),
-                Stage2Result::Accepted => {
-                    add_range(policy, range);
-                    Stage2Result::Accepted
-                }
-            }
+            allow_answer_for(policy, Stage2Range::new(base_ipa, size, attributes))
         }
     }
 }
 
-// Whether a number names a handler: it is the number of the handler that it names.
-fn is_handler(number: u64) -> bool
-    ensures { λ r. ⌜ r ≡ isHandler number ⌝ }
+// Allows the guest to access a range directly: refusals 1 to 7, in order. The range and the count are stored, and no other word.
+pub fn allow_range(policy: &mut [u8; POLICY_SIZE], base_ipa: u64, size: u64, attributes: u64) -> u64
+    ensures { λ r. ⌜ Leaves (allowCall (now (policy .entry)) «base_ipa» size attributes) r (now (policy .exit)) [] ⌝ }
 {
-    handler_number(stage2::memory_handler(number)) == number
+    match allow_answer(policy, base_ipa, size, attributes) {
+        Stage2Result::Refused(error) => error.number(),
+        Stage2Result::Accepted => {
+            add_range(policy, Stage2Range::new(base_ipa, size, attributes));
+            0
+        }
+    }
 }
 
 // Refusals 6, 8 and 9, in order.
 fn handle_answer_for(policy: &[u8; POLICY_SIZE], region: MemoryAccessRegion) -> Stage2Result
     ensures { λ r. ⌜ r ≡ handleAnswerFor (policyAt (now (policy .entry))) region ⌝ }
 {
-    if overlaps_allowed(policy, region.base_ipa, region.end_ipa) {
+    let region_bytes = region.bytes();
+    if overlaps_allowed(policy, region_bytes) {
         return Stage2Result::Refused(Stage2ConfigError::AllowedRangeOverlap);
     }
     if MAX_MEMORY_ACCESS_HANDLERS <= get_region_count(policy) {
         return Stage2Result::Refused(Stage2ConfigError::TooManyMemoryAccessHandlerRegions);
     }
-    if overlaps_regions(policy, region.base_ipa, region.end_ipa) {
+    if overlaps_regions(policy, region_bytes) {
         return Stage2Result::Refused(Stage2ConfigError::MemoryAccessHandlerRangeOverlap);
     }
     Stage2Result::Accepted
@@ -284,7 +315,7 @@ fn handle_answer_for(policy: &[u8; POLICY_SIZE], region: MemoryAccessRegion) -> 
 fn place_by_base(policy: &[u8; POLICY_SIZE], base_ipa: u64) -> u64
     ensures { λ r. ⌜ r ≡ firstIndex (λ s. leb «base_ipa» (s .«base_ipa»)) (regionsHeld (policyAt (now (policy .entry)))) ⌝ }
 {
-    let held = lists::held_count(get_region_count(policy), MAX_MEMORY_ACCESS_HANDLERS);
+    let held = regions_held(policy);
     let mut place: u64 = 0;
     while place < held {
         if base_ipa <= get_region_base(policy, place) {
@@ -312,29 +343,36 @@ fn place_at(policy: &mut [u8; POLICY_SIZE], n: u64, at: u64, region: MemoryAcces
 
 // Stores a region at its place by base, and counts it.
 fn insert_region(policy: &mut [u8; POLICY_SIZE], region: MemoryAccessRegion)
-    requires { ⌜ wordAt (now policy) 209 < 16 ⌝ }
-    ensures { λ _. ⌜ now (policy .exit) ≡ withRegions (now (policy .entry)) (insertRegion (each (regionAt (now (policy .entry))) 0 16) (wordAt (now (policy .entry)) 209) region) (wordAt (now (policy .entry)) 209 + 1) ⌝ }
+    requires { ⌜ wordAt (now policy) regionCountAt < 16 ⌝ }
+    ensures { λ _. ⌜ now (policy .exit) ≡ withRegions (now (policy .entry)) (insertRegion (each (regionAt (now (policy .entry))) 0 16) (wordAt (now (policy .entry)) regionCountAt) region) (wordAt (now (policy .entry)) regionCountAt + 1) ⌝ }
 {
     let count = get_region_count(policy);
     let at = place_by_base(policy, region.base_ipa);
     place_at(policy, count, at, region);
-    lent_words::put_word(policy, 209, count + 1);
+    lent_words::put_word(policy, REGION_COUNT, count + 1);
 }
 
-// The region that a call asks for.
-fn region_of(base_ipa: u64, size: u64, read: u64, write: u64) -> MemoryAccessRegion
-    requires { ⌜ «base_ipa» + size < 2 ^ 64 ⌝ }
-    ensures { λ r. ⌜ r ≡ regionOf «base_ipa» size read write ⌝ }
+// Refusals 20, 1 to 4, 6, 8, 9, in order.
+fn handle_answer(
+    policy: &[u8; POLICY_SIZE],
+    base_ipa: u64,
+    size: u64,
+    read: u64,
+    write: u64,
+) -> Stage2Result
+    ensures { λ r. ⌜ r ≡ handleAnswer (policyAt (now (policy .entry))) «base_ipa» size read write ⌝ }
 {
-    let handler = MemoryAccessHandler {
-        read: stage2::memory_handler(read),
-        write: stage2::memory_handler(write),
-    };
-    MemoryAccessRegion {
-        base_ipa,
-        size,
-        handler,
-        end_ipa: base_ipa + size,
+    if !stage2_range::is_handler(read) {
+        return Stage2Result::Refused(Stage2ConfigError::UnknownMemoryHandler);
+    }
+    if !stage2_range::is_handler(write) {
+        return Stage2Result::Refused(Stage2ConfigError::UnknownMemoryHandler);
+    }
+    match stage2_range::validate_range(base_ipa, size) {
+        Stage2Result::Refused(error) => Stage2Result::Refused(error),
+        Stage2Result::Accepted => {
+            handle_answer_for(policy, MemoryAccessRegion::new(base_ipa, size, read, write))
+        }
     }
 }
 
@@ -346,27 +384,14 @@ pub fn handle_range(
     size: u64,
     read: u64,
     write: u64,
-) -> Stage2Result
-    ensures { λ r. ⌜ (r ≡ handleRange (policyAt (now (policy .entry))) «base_ipa» size read write .answer)
-        × (now (policy .exit) ≡ unlessRefused (resultNumber r) (now (policy .entry)) (withRegionsOf (now (policy .entry)) (handleRange (policyAt (now (policy .entry))) «base_ipa» size read write .policy))) ⌝ }
+) -> u64
+    ensures { λ r. ⌜ Leaves (handleCall (now (policy .entry)) «base_ipa» size read write) r (now (policy .exit)) [] ⌝ }
 {
-    if !is_handler(read) {
-        return Stage2Result::Refused(Stage2ConfigError::UnknownMemoryHandler);
-    }
-    if !is_handler(write) {
-        return Stage2Result::Refused(Stage2ConfigError::UnknownMemoryHandler);
-    }
-    match stage2_range::validate_range(base_ipa, size) {
-        Stage2Result::Refused(error) => Stage2Result::Refused(error),
+    match handle_answer(policy, base_ipa, size, read, write) {
+        Stage2Result::Refused(error) => error.number(),
         Stage2Result::Accepted => {
-            let region = region_of(base_ipa, size, read, write);
-            match handle_answer_for(policy, region) {
-                Stage2Result::Refused(error) => Stage2Result::Refused(error),
-                Stage2Result::Accepted => {
-                    insert_region(policy, region);
-                    Stage2Result::Accepted
-                }
-            }
+            insert_region(policy, MemoryAccessRegion::new(base_ipa, size, read, write));
+            0
         }
     }
 }

@@ -24,7 +24,7 @@ use Rattle.hypervisor.specs.Cores.{freshCores, saveCore, saveOn, replyOn, trapO
 use Rattle.hypervisor.proofs.Steps.{trap-policy}
 use Rattle.simple_map.specs.declared.SimpleMap.{SimpleMap}
 use Rattle.simple_map.specs.Map.{insertItem, insertNumber, removeItem}
-use Rattle.lent_policy.specs.Layout.{policyAt, withAllowed, withRegions}
+use Rattle.lent_policy.specs.Layout.{policyAt, withAllowed, withRegions, policySize}
 use Rattle.lent_policy.proofs.States.{fresh-policy, allowed-lent, regions-lent}
 use Rattle.lent_cores.specs.Layout.{coresAt, counterAt, withCore, withCounter, counterWord, coresSize, elrWord, spsrWord}
 use Rattle.lent_cores.proofs.Records.{core-lent, counter-lent}
@@ -156,7 +156,7 @@ trapped-lent p b i trap h =
     let core = coreOf (t .cores) i in
     left-lent (trapNumber (t .result .answer)) b (withCounter (withCore b i core) (t .counter)) h (counter-lent (withCore b i core) (t .counter) (core-lent b i core h))
 
-allow-lent : (b : List ℕ) (base size attributes : ℕ) → Lent 1680 b → Lent 1680 (allowCall b base size attributes .state)
+allow-lent : (b : List ℕ) (base size attributes : ℕ) → Lent policySize b → Lent policySize (allowCall b base size attributes .state)
 unfolding allowCall
 allow-lent b base size attributes h =
     let built = allowRange (policyAt b) base size attributes in
@@ -164,7 +164,7 @@ allow-lent b base size attributes h =
     let n = built .policy .«allowed_count» in
     left-lent (resultNumber (built .answer)) b (withAllowed b ranges n) h (allowed-lent b ranges n h)
 
-handle-lent : (b : List ℕ) (base size read write : ℕ) → Lent 1680 b → Lent 1680 (handleCall b base size read write .state)
+handle-lent : (b : List ℕ) (base size read write : ℕ) → Lent policySize b → Lent policySize (handleCall b base size read write .state)
 unfolding handleCall
 handle-lent b base size read write h =
     let built = handleRange (policyAt b) base size read write in
@@ -208,7 +208,7 @@ held-states b s (e ∷ es) t =
 
 -- zero bytes
 abbrev zeros : Buffers
-zeros = record { policy = replicate 1680 0; cores = replicate coresSize 0; map = replicate mapSize 0 }
+zeros = record { policy = replicate policySize 0; cores = replicate coresSize 0; map = replicate mapSize 0 }
 
 zeros-lent : (n : ℕ) → Lent n (replicate n 0)
 zeros-lent n = record { long = length-replicate n 0; bytes = go n }
@@ -222,5 +222,5 @@ zeros-lent n = record { long = length-replicate n 0; bytes = go n }
 pub from-fresh : (es : List Entry) → AllTyped es → stateIn (afterAll zeros es) ≡ callAll freshState (map hostCall es)
 unfolding freshState freshCores
 from-fresh es t =
-    held-states zeros (record { policy = zeros-lent 1680; cores = zeros-lent coresSize; map = zeros-lent mapSize }) es t
+    held-states zeros (record { policy = zeros-lent policySize; cores = zeros-lent coresSize; map = zeros-lent mapSize }) es t
     ∙ ap (λ (s : State). callAll s (map hostCall es)) (λ i. record { policy = fresh-policy i; cores = fresh-cores i; counter = fresh-counter i; map = fresh-map i })

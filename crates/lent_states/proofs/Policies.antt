@@ -1,42 +1,33 @@
 -- Builder calls on lent bytes: the policy that the bytes then hold is the one that the library's call hands back. Assumes nothing.
-use Prim.Native.Nat.{ℕ, _+_, _*_, _<_}
+use Prim.Native.Nat.{ℕ, _+_, _<_}
 use mathlib.Core.Path.{_≡_, refl, ap, subst, _∙_}
 use mathlib.Core.List.{List}
 use native.Mathlib.Omega.{arith}
 use borrow.Author.Tests.{ne-eqb}
 use lib.Dec.{leb}
 use lib.ListN.{length, set, take, drop, length-set, take-append-drop}
-use Rattle.lent_words.specs.Words.{FitsWord, Bytes, Lent}
+use Rattle.lent_words.specs.Words.{FitsWord, Lent}
 use Rattle.lent_words.proofs.Words.{length-each}
-use Rattle.lent_words.proofs.RoundTrip.{Every, word-fits}
+use Rattle.lent_words.proofs.RoundTrip.{Every}
 use Rattle.lent_words.proofs.Every.{every-each, every-append, every-take, every-drop, every-set, every-insert}
 use Rattle.stage2_range.specs.declared.Stage2Result.{Stage2Result}
 use Rattle.stage2_range.specs.declared.Stage2Result.the-variants.{Accepted, Refused}
 use Rattle.stage2_range.specs.declared.MemoryAccessRegion.{MemoryAccessRegion}
-use Rattle.stage2_range.specs.Ranges.{errorNumber, resultNumber}
-use Rattle.stage2_range.specs.Registry.{insertRegion}
+use Rattle.stage2_range.specs.Ranges.{rangeOf, errorNumber, resultNumber}
+use Rattle.stage2_range.specs.Registry.{regionOf, insertRegion}
 use Rattle.stage2_range.proofs.Registry.{insert-by-base, insert-rest}
 use Rattle.stage2.specs.declared.Policy.{Policy}
-use Rattle.stage2.specs.Policy.{rangeOf, regionOf, builtBy, allowAnswer, allowRange, handleAnswer, handleRange}
+use Rattle.stage2.specs.Policy.{builtBy, allowAnswer, allowRange, handleAnswer, handleRange}
 use Rattle.stage2.specs.Policy as policy
 use Rattle.stage2.proofs.WellFormed.{inserted-places}
 use Rattle.stage2.proofs.Laws.{error-not-zero, allow-accepted, handle-accepted}
-use Rattle.lent_policy.specs.Layout.{rangeAt, regionAt, policyAt, withAllowed, withRegions}
-use Rattle.lent_policy.proofs.Records.{RangeFits, RegionFits}
+use Rattle.lent_policy.specs.Layout.{policySize, rangeAt, regionAt, policyAt, withAllowed, withRegions}
+use Rattle.lent_policy.proofs.Records.{RangeFits, RegionFits, asked-range-fits, asked-region-fits, range-fits, region-fits}
 use Rattle.lent_policy.proofs.States.{allowed-back, regions-back}
 use Rattle.ritm.specs.Interface.{unlessRefused, allowCall, handleCall}
 
--- what bytes hold fits words
-range-fits : (b : List ℕ) → Bytes b → (k : ℕ) → RangeFits (rangeAt b k)
-unfolding rangeAt
-range-fits b h k = (word-fits b (4 * k) h, (word-fits b (4 * k + 1) h, (word-fits b (4 * k + 2) h, (word-fits b (4 * k + 3) h, tt))))
-
-region-fits : (b : List ℕ) → Bytes b → (k : ℕ) → RegionFits (regionAt b k)
-unfolding regionAt
-region-fits b h k = (word-fits b (129 + 5 * k) h, (word-fits b (129 + 5 * k + 1) h, (word-fits b (129 + 5 * k + 2) h, tt)))
-
 -- `ritm_allow_range`
-pub allow-held : (b : List ℕ) (base size attributes : ℕ) → Lent 1680 b → FitsWord base → FitsWord size → FitsWord attributes
+pub allow-held : (b : List ℕ) (base size attributes : ℕ) → Lent policySize b → FitsWord base → FitsWord size → FitsWord attributes
     → policyAt (allowCall b base size attributes .state) ≡ allowRange (policyAt b) base size attributes .policy
 unfolding allowCall allowRange policyAt policy.addAllowed
 allow-held b base size attributes lent f g h = go (allowAnswer p base size attributes) refl
@@ -56,7 +47,7 @@ allow-held b base size attributes lent f g h = go (allowAnswer p base size attri
         let ranges = p .allowed in
         allowed-back b (set ranges (p .«allowed_count») (rangeOf base size attributes)) (p .«allowed_count» + 1) (lent .long)
         (length-set ranges (p .«allowed_count») (rangeOf base size attributes) ∙ length-each (rangeAt b) 0 32)
-        (every-set RangeFits ranges (p .«allowed_count») (rangeOf base size attributes) (every-each RangeFits (rangeAt b) (range-fits b (lent .bytes)) 0 32) (f, (g, (can .fits .ends, (h, tt)))))
+        (every-set RangeFits ranges (p .«allowed_count») (rangeOf base size attributes) (every-each RangeFits (rangeAt b) (range-fits b (lent .bytes)) 0 32) (asked-range-fits base size attributes f g h))
         (omega (arith, can .room))
 
 -- regions with one more fit words
@@ -69,7 +60,7 @@ inserted-fits rs n r room all one =
     (rw (insert-rest rs n r room) (every-drop RegionFits (n + 1) rs all)))
 
 -- `ritm_handle_range`
-pub handle-held : (b : List ℕ) (base size read write : ℕ) → Lent 1680 b → FitsWord base → FitsWord size
+pub handle-held : (b : List ℕ) (base size read write : ℕ) → Lent policySize b → FitsWord base → FitsWord size
     → policyAt (handleCall b base size read write .state) ≡ handleRange (policyAt b) base size read write .policy
 unfolding handleCall handleRange policyAt policy.addRegion
 handle-held b base size read write lent f g = go (handleAnswer p base size read write) refl
@@ -92,5 +83,5 @@ handle-held b base size read write lent f g = go (handleAnswer p base size read 
         let long = length-each (regionAt b) 0 16 in
         regions-back b (insertRegion (p .regions) (p .«region_count») region) (p .«region_count» + 1) lent
         (inserted-places (p .regions) (p .«region_count») region (omega (arith, can .room, long)) ∙ long)
-        (inserted-fits (p .regions) (p .«region_count») region (omega (arith, can .room, long)) (every-each RegionFits (regionAt b) (region-fits b (lent .bytes)) 0 16) (f, (g, (can .fits .ends, tt))))
+        (inserted-fits (p .regions) (p .«region_count») region (omega (arith, can .room, long)) (every-each RegionFits (regionAt b) (region-fits b (lent .bytes)) 0 16) (asked-region-fits base size read write f g))
         (omega (arith, can .room))

@@ -6,7 +6,7 @@ use Rattle.lent_words.specs.Words.{wordAt, wordsAt, FitsWord, Bytes, Lent}
 use Rattle.stage2.specs.Builds.{allow, handle}
 use Rattle.data_abort.specs.declared.TrapRegisters.{TrapRegisters}
 use Rattle.hvc_response.specs.Response.{signedWord}
-use Rattle.lent_policy.specs.Layout.{policyAt}
+use Rattle.lent_policy.specs.Layout.{policyAt, policySize}
 use Rattle.lent_cores.specs.Layout.{coresAt, counterAt, elrWord, spsrWord, coresSize}
 use Rattle.lent_map.specs.Layout.{mapAt, mapSize}
 use Rattle.ritm.specs.Interface.{Left, allowCall, handleCall, saveCall, trapCall, replyCall, writeCall, insertCall, getCall, removeCall}
@@ -100,7 +100,7 @@ Typed (ritm-remove key) = Unit {0}
 
 -- and of the buffers: their lengths
 pub record Sized (b : Buffers) : Type 0 where
-  pub policy : Lent 1680 (b .policy)
+  pub policy : Lent policySize (b .policy)
   pub cores : Lent coresSize (b .cores)
   pub map : Lent mapSize (b .map)
 

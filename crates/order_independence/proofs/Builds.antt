@@ -1,5 +1,5 @@
 -- The calls that a list accepts may be made in any order. Assumes nothing.
-use Prim.Native.Nat.{ℕ, _+_, _<_}
+use Prim.Native.Nat.{ℕ, _<_}
 use mathlib.Core.Path.{_≡_, refl, sym, _∙_, ap, subst, subst₂}
 use mathlib.Core.Bool.{Bool, true, false, _&&_, cond}
 use mathlib.Core.List.{List, [], _∷_, List·Memᴰ, List·Permᴰ, List·Permᴰ·nil, List·Permᴰ·cons, List·Permᴰ·swap, List·Permᴰ·trans, Permᴰ·symm}
@@ -12,12 +12,15 @@ use Rattle.lists.proofs.Laws.{length-held, length-insert, insert-end, inserted-
 use Rattle.lists.proofs.Sorting.{perm-member, insertion-all, insert-comm, sort-append, sort-perm, sort-length}
 use Rattle.stage2_range.specs.declared.Stage2Result.{Stage2Result}
 use Rattle.stage2_range.specs.declared.Stage2Result.the-variants.{Accepted, Refused}
+use Rattle.stage2_range.specs.declared.PageRange.{PageRange}
 use Rattle.stage2_range.specs.declared.Stage2Range.{Stage2Range}
 use Rattle.stage2_range.specs.declared.MemoryAccessRegion.{MemoryAccessRegion}
-use Rattle.stage2_range.specs.Ranges.{ValidRange, sharesByte, resultNumber}
-use Rattle.stage2_range.proofs.Ranges.{shares-sym, apart-bases}
+use Rattle.stage2_range.specs.Ranges.{ValidRange, pageRange, sharesByte, rangeOf, rangeBytes, resultNumber}
+use Rattle.stage2_range.specs.Handlers.{isHandler}
+use Rattle.stage2_range.specs.Registry.{regionOf, regionBytes}
+use Rattle.stage2_range.proofs.Ranges.{shares-sym, apart-bases, base-byte}
 use Rattle.stage2.specs.declared.Policy.{Policy}
-use Rattle.stage2.specs.Policy.{isHandler, rangeOf, regionOf, allowedHeld, regionsHeld, addAllowed, addRegion}
+use Rattle.stage2.specs.Policy.{allowedHeld, regionsHeld, addAllowed, addRegion}
 use Rattle.stage2.specs.Builds.{BuilderCall, allow, handle, build, buildAll, Apart, CanAllow, CanHandle, WellFormed}
 use Rattle.order_independence.specs.Builds.{accepts, accepted, AllAccepted, SamePolicy}
 use Rattle.stage2.proofs.Laws.{error-not-zero, build-refused, allow-accepted, can-allow, handle-accepted, can-handle}
@@ -46,7 +49,7 @@ put v (allow base size attributes) =
 put v (handle base size read write) =
     record { allowed = v .allowed; regions = insertBy regionBase (regionOf base size read write) (v .regions) }
 
--- the range that a call asks for
+-- the range that a call asks for, and its bytes
 abbrev baseOf : BuilderCall → ℕ
 baseOf (allow base size attributes) = base
 baseOf (handle base size read write) = base
@@ -55,8 +58,8 @@ abbrev sizeOf : BuilderCall → ℕ
 sizeOf (allow base size attributes) = size
 sizeOf (handle base size read write) = size
 
-abbrev endOf : BuilderCall → ℕ
-endOf c = baseOf c + sizeOf c
+abbrev bytesOf : BuilderCall → PageRange
+bytesOf c = pageRange (baseOf c) (sizeOf c)
 
 -- the handlers that a call names are known
 abbrev Known : BuilderCall → Type 0
@@ -68,25 +71,25 @@ abbrev Room : View → BuilderCall → Type 0
 Room v (allow base size attributes) = length (v .allowed) < 32
 Room v (handle base size read write) = length (v .regions) < 16
 
--- no record held shares a byte with a range
-abbrev Clear : View → ℕ → ℕ → Type 0
-Clear v base end =
-    ((r : Stage2Range) → List·Memᴰ r (v .allowed) → sharesByte (r .«base_ipa») (r .«end_ipa») base end ≡ false)
-    × ((r : MemoryAccessRegion) → List·Memᴰ r (v .regions) → sharesByte (r .«base_ipa») (r .«end_ipa») base end ≡ false)
+-- no record held shares one of these bytes
+abbrev Clear : View → PageRange → Type 0
+Clear v bytes =
+    ((r : Stage2Range) → List·Memᴰ r (v .allowed) → sharesByte (rangeBytes r) bytes ≡ false)
+    × ((r : MemoryAccessRegion) → List·Memᴰ r (v .regions) → sharesByte (regionBytes r) bytes ≡ false)
 
 -- a call can be accepted: its arguments fit, there is room, no byte is shared
 record Fits (v : View) (c : BuilderCall) : Type 0 where
   known : Known c
   valid : ValidRange (baseOf c) (sizeOf c)
   room : Room v c
-  clear : Clear v (baseOf c) (endOf c)
+  clear : Clear v (bytesOf c)
 
--- a range shares no byte with what a policy holds exactly where it is clear of it
-apart-clear : (p : Policy) (base end : ℕ) → Apart p base end → Clear (view p) base end
-apart-clear p base end a = (perm-member (sort-perm rangeBase (allowedHeld p)) _ (a .from-allowed), a .from-regions)
+-- bytes share none with what a policy holds exactly where they are clear of it
+apart-clear : (p : Policy) (bytes : PageRange) → Apart p bytes → Clear (view p) bytes
+apart-clear p bytes a = (perm-member (sort-perm rangeBase (allowedHeld p)) _ (a .from-allowed), a .from-regions)
 
-clear-apart : (p : Policy) (base end : ℕ) → Clear (view p) base end → Apart p base end
-clear-apart p base end k =
+clear-apart : (p : Policy) (bytes : PageRange) → Clear (view p) bytes → Apart p bytes
+clear-apart p bytes k =
     record { from-allowed = perm-member (Permᴰ·symm (sort-perm rangeBase (allowedHeld p))) _ (k .0); from-regions = k .1 }
 
 -- A well-formed policy accepts exactly the calls that fit what it holds, and then holds one record more.
@@ -94,23 +97,23 @@ module _ (p : Policy) (w : WellFormed p) where
   -- as many are held as the counts say
   allowed-length : length (sortBy rangeBase (allowedHeld p)) ≡ p .«allowed_count»
   allowed-length =
-      let e = length-held 32 (p .«allowed_count») (p .allowed) (omega (arith, w .allowed-places)) in
-      sort-length rangeBase (allowedHeld p) ∙ omega (arith, e, w .allowed-limit)
+      let e = length-held 32 (p .«allowed_count») (p .allowed) (omega (arith, w .allowed-places .all)) in
+      sort-length rangeBase (allowedHeld p) ∙ omega (arith, e, w .allowed-places .within)
 
   regions-length : length (regionsHeld p) ≡ p .«region_count»
   regions-length =
-      let e = length-held 16 (p .«region_count») (p .regions) (omega (arith, w .region-places)) in
-      omega (arith, e, w .region-limit)
+      let e = length-held 16 (p .«region_count») (p .regions) (omega (arith, w .region-places .all)) in
+      omega (arith, e, w .region-places .within)
 
   -- a call that is accepted fits
   accepted-fits : (c : BuilderCall) → build p c .answer ≡ Accepted → Fits (view p) c
   accepted-fits (allow base size attributes) h =
       let k = allow-accepted p base size attributes h in
-      let clear = apart-clear p base (base + size) (k .apart) in
+      let clear = apart-clear p (pageRange base size) (k .apart) in
       record { known = tt; valid = k .fits; room = omega (arith, k .room, allowed-length); clear = clear }
   accepted-fits (handle base size read write) h =
       let k = handle-accepted p base size read write h in
-      let clear = apart-clear p base (base + size) (k .apart) in
+      let clear = apart-clear p (pageRange base size) (k .apart) in
       record { known = k .handlers; valid = k .fits; room = omega (arith, k .room, regions-length); clear = clear }
 
   -- a call that fits is accepted, and its record is held
@@ -119,20 +122,20 @@ module _ (p : Policy) (w : WellFormed p) where
   fits-accepted (allow base size attributes) f =
       let r : Stage2Range = rangeOf base size attributes in
       let room : p .«allowed_count» < 32 = omega (arith, f .room, allowed-length) in
-      let k : CanAllow p base size = record { fits = f .valid; room = room; apart = clear-apart p base (base + size) (f .clear) } in
-      let held = allowed-held p r (w .allowed-places) room ∙ insert-end r (allowedHeld p) in
+      let k : CanAllow p base size = record { fits = f .valid; room = room; apart = clear-apart p (pageRange base size) (f .clear) } in
+      let held = allowed-held p r (w .allowed-places .all) room ∙ insert-end r (allowedHeld p) in
       let e = ap (sortBy rangeBase) held ∙ sort-append rangeBase r (allowedHeld p) in
       rw (can-allow p base size attributes k) (refl, λ i. record { allowed = e i; regions = regionsHeld p })
   fits-accepted (handle base size read write) f =
       let room : p .«region_count» < 16 = omega (arith, f .room, regions-length) in
-      let apart = clear-apart p base (base + size) (f .clear) in
+      let apart = clear-apart p (pageRange base size) (f .clear) in
       let k : CanHandle p base size read write = record { handlers = f .known; fits = f .valid; room = room; apart = apart } in
-      let e = regions-held p (regionOf base size read write) (w .region-places) room in
+      let e = regions-held p (regionOf base size read write) (w .region-places .all) room in
       rw (can-handle p base size read write k) (refl, λ i. record { allowed = view p .allowed; regions = e i })
 
--- A range is clear of what is held after a call exactly where it is clear of what was held and of the call's range.
-module _ (v : View) (base end : ℕ) where
-  put-clear : (c : BuilderCall) → Clear (put v c) base end → (sharesByte (baseOf c) (endOf c) base end ≡ false) × Clear v base end
+-- Bytes are clear of what is held after a call exactly where they are clear of what was held and of the call's range.
+module _ (v : View) (bytes : PageRange) where
+  put-clear : (c : BuilderCall) → Clear (put v c) bytes → (sharesByte (bytesOf c) bytes ≡ false) × Clear v bytes
   put-clear (allow b s a) k =
       let h = insertion-all _ _ (rangeOf b s a) (v .allowed) (k .0) in
       (h .0, (h .1, k .1))
@@ -140,7 +143,7 @@ module _ (v : View) (base end : ℕ) where
       let h = insertion-all _ _ (regionOf b s r w) (v .regions) (k .1) in
       (h .0, (k .0, h .1))
 
-  clear-put : (c : BuilderCall) → sharesByte (baseOf c) (endOf c) base end ≡ false → Clear v base end → Clear (put v c) base end
+  clear-put : (c : BuilderCall) → sharesByte (bytesOf c) bytes ≡ false → Clear v bytes → Clear (put v c) bytes
   clear-put (allow b s a) h k = (inserted-all _ _ (rangeOf b s a) (v .allowed) h (k .0), k .1)
   clear-put (handle b s r w) h k = (k .0, inserted-all _ _ (regionOf b s r w) (v .regions) h (k .1))
 
@@ -169,13 +172,12 @@ room-both v (handle b s r w) (handle b′ s′ r′ w′) differ h k =
 fits-both : (v : View) (a b : BuilderCall) → Fits v a → Fits (put v a) b
     → Fits v b × Fits (put v b) a × (put (put v a) b ≡ put (put v b) a)
 fits-both v a b f g =
-    let k = put-clear v (baseOf b) (endOf b) a (g .clear) in
-    let apart = shares-sym (baseOf b) (endOf b) (baseOf a) (endOf a) ∙ k .0 in
-    let differ = apart-bases (baseOf b) (endOf b) (baseOf a) (endOf a) (omega (arith, g .valid .not-empty))
-    (omega (arith, f .valid .not-empty)) apart in
+    let k = put-clear v (bytesOf b) a (g .clear) in
+    let apart = shares-sym (bytesOf b) (bytesOf a) ∙ k .0 in
+    let differ = apart-bases (bytesOf b) (bytesOf a) (base-byte _ _ (g .valid)) (base-byte _ _ (f .valid)) apart in
     let r = room-both v a b differ (f .room) (g .room) in (
       record { known = g .known; valid = g .valid; room = r .0; clear = k .1 },
-      record { known = f .known; valid = f .valid; room = r .1; clear = clear-put v (baseOf a) (endOf a) b apart (f .clear) },
+      record { known = f .known; valid = f .valid; room = r .1; clear = clear-put v (bytesOf a) b apart (f .clear) },
       r .2,
     )
 

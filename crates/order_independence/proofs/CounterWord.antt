@@ -11,11 +11,13 @@ use Rattle.lists.specs.Refusals.{case}
 use Rattle.lists.proofs.Laws.{zero-none, all-numbered}
 use Rattle.memory_access.specs.declared.MemoryAccessKind.the-variants.{Read}
 use Rattle.memory_access.specs.Syndrome.{faultIpa}
+use Rattle.stage2_range.specs.Registry.{regionBytes}
+use Rattle.stage2_range.proofs.Ranges.{byte-above}
 use Rattle.stage2_range.proofs.Registry.{find-held}
 use Rattle.stage2.specs.declared.Policy.{Policy}
 use Rattle.stage2.specs.Policy.{regionsHeld}
 use Rattle.stage2.specs.Builds.{WellFormed}
-use Rattle.stage2.proofs.WellFormed.{find-exact}
+use Rattle.stage2.proofs.WellFormed.{find-exact, held-address}
 use Rattle.exceptions.specs.declared.Core.{Core}
 use Rattle.exceptions.specs.Registers.{coreOf}
 use Rattle.forwarded_call.specs.ForwardedCall.{waits}
@@ -44,14 +46,16 @@ module _ (policy : Policy) (cores : List Core) (counter i : ℕ) (trap : TrapReg
   found-region : WellFormed policy → LoadsCounterWord policy cores counter i trap → CounterLoad (regionsHeld policy) trap
   found-region w l =
       let r = l .region in
-      let valid = w .regions-valid r (l .is-held) in
       let ipa = faultIpa (trap .fipa) (trap .far) in
+      let valid = w .regions-disjoint .valid r (l .is-held) in
+      let has = held-address policy w r (l .is-held) (ipa .0) (omega (arith, l .ipa-16-above))
+      (omega (arith, l .ipa-16-above, valid .whole-pages, valid .not-empty)) in
       record {
         isv-set = l .isv-set;
         wnr-clear = l .wnr-clear;
         sas-3 = l .sas-3;
         found = record { region = r; offset = ipa .0 - r .«base_ipa» };
-        is-found = find-exact policy w r (l .is-held) ipa (omega (arith, l .ipa-16-above)) (omega (arith, l .ipa-16-above, valid .1, valid .0 .whole-pages, valid .0 .not-empty));
+        is-found = find-exact policy w r (l .is-held) ipa has;
         offset-16 = omega (arith, l .ipa-16-above);
         reads-page = l .reads-page;
       }
@@ -85,7 +89,7 @@ module _ (policy : Policy) (cores : List Core) (counter i : ℕ) (trap : TrapReg
         sas-3 = a .sas-3;
         region = a .found .region;
         is-held = f .0;
-        ipa-16-above = omega (arith, f .1, f .3, a .offset-16);
+        ipa-16-above = omega (arith, byte-above (regionBytes (a .found .region)) (ipa .0) (f .1), f .2, a .offset-16);
         reads-page = a .reads-page;
       }
 

@@ -8,13 +8,11 @@ use Rattle.records.specs.declared.Call.{Call}
 use Rattle.records.specs.Records.{expected, placeCompared}
 use Rattle.stage2_range.specs.declared.RegionFound.{RegionFound}
 use Rattle.stage2_range.specs.declared.RegionFound.the-variants.{Nothing, Match}
-use Rattle.stage2_range.specs.declared.Stage2Range.{Stage2Range}
-use Rattle.stage2_range.specs.declared.MemoryAccessRegion.{MemoryAccessRegion}
-use Rattle.stage2_range.specs.Ranges.{resultNumber}
-use Rattle.stage2_range.specs.Registry.{findRegion, handlerNumber}
+use Rattle.stage2_range.specs.Ranges.{rangeOf, rangeWords, resultNumber}
+use Rattle.stage2_range.specs.Registry.{regionOf, regionWords, findRegion}
 use Rattle.stage2.specs.declared.Policy.{Policy}
 use Rattle.stage2.specs.declared.Built.{Built}
-use Rattle.stage2.specs.Policy.{rangeOf, regionOf, freshPolicy, regionsHeld, allowRange, handleRange}
+use Rattle.stage2.specs.Policy.{freshPolicy, regionsHeld, allowRange, handleRange}
 use Rattle.recorded_calls.specs.declared.policy.PolicyTaken.{PolicyTaken}
 
 -- what a builder's call comes to: its number
@@ -25,18 +23,6 @@ builtTaken r built = record { compared = expected r (resultNumber (built .answer
 abbrev pub searchWords : RegionFound → List ℕ
 searchWords Nothing = 0 ∷ 0 ∷ 0 ∷ []
 searchWords (Match m) = 1 ∷ m .region .«base_ipa» ∷ m .offset ∷ []
-
--- an allowed range: base, size, end, attributes
-abbrev pub rangeWords : Stage2Range → List ℕ
-rangeWords range = range .«base_ipa» ∷ range .size ∷ range .«end_ipa» ∷ range .attributes ∷ []
-
--- a region: base, size, end, read, write
-abbrev pub regionWords : MemoryAccessRegion → List ℕ
-regionWords region =
-    region .«base_ipa» ∷ region .size ∷ region .«end_ipa»
-    ∷ handlerNumber (region .handler .read)
-    ∷ handlerNumber (region .handler .write)
-    ∷ []
 
 -- the records that leave the policy as it is: 3 and 15 a search, over the regions held and over all lent; 11 and 12 a place's state; 13 how
 -- many are held

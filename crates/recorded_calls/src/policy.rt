@@ -1,16 +1,15 @@
 // The records of the policy: 1 to 3 and 15, and its state, 11 to 13.
 ghost use mathlib.Core.Path.{_≡_};
 ghost use mathlib.Core.List.{foldl};
-ghost use Rattle.stage2_range.specs.Registry.{handlerNumber};
-ghost use Rattle.stage2.specs.Policy.{rangeOf, regionOf};
+ghost use Rattle.stage2_range.specs.Ranges.{rangeOf, rangeWords};
+ghost use Rattle.stage2_range.specs.Registry.{regionOf, regionWords};
 ghost use Rattle.records.specs.Records.{expected, placeCompared};
-ghost use Rattle.recorded_calls.specs.Policies.{builtTaken, searchWords, rangeWords, regionWords, policyRead, policyTaken};
+ghost use Rattle.recorded_calls.specs.Policies.{builtTaken, searchWords, policyRead, policyTaken};
 use memory_access::Ipa;
 use records::Call;
 use records::Record;
 use stage2::Built;
 use stage2::Policy;
-use stage2_range::MemoryHandler;
 use stage2_range::RegionFound;
 
 // The record with its answer compared, and the policy then.
@@ -94,7 +93,7 @@ fn allowed_at(recorded: Record, policy: Policy, place: u64) -> Record
         return recorded.no_record();
     }
     let range = policy.allowed[place as usize];
-    recorded.expect_all(&[range.base_ipa, range.size, range.end_ipa, range.attributes])
+    recorded.expect_all(&range.words())
 }
 
 const LAST_REGION: u64 = 15;
@@ -107,25 +106,5 @@ fn region_at(recorded: Record, policy: Policy, place: u64) -> Record
         return recorded.no_record();
     }
     let region = policy.regions[place as usize];
-    let handler = region.handler;
-    let read = handler.read;
-    let write = handler.write;
-    recorded.expect_all(
-        &[
-            region.base_ipa,
-            region.size,
-            region.end_ipa,
-            handler_number(read),
-            handler_number(write),
-        ],
-    )
-}
-
-fn handler_number(handler: MemoryHandler) -> u64
-    ensures { λ r. ⌜ r ≡ handlerNumber handler ⌝ }
-{
-    match handler {
-        MemoryHandler::Absent => 0,
-        MemoryHandler::FilteredMmio => 1,
-    }
+    recorded.expect_all(&region.words())
 }

@@ -3,12 +3,9 @@
 use Prim.Native.Nat.{ℕ}
 use mathlib.Core.List.{List, [], _∷_}
 use lib.ListN.{getD}
-use Rattle.lists.specs.Lists.{firstIndex}
 use Rattle.memory_access.specs.Syndrome.{decodeAccess, numberOf, valuesOf}
 use Rattle.memory_access.specs.Transfer.{extendedValue}
-use Rattle.stage2_range.specs.Ranges.{resultNumber, alignDown, alignUp, alignedNumber, alignedValue}
-use Rattle.stage2_range.specs.Registry.{hasAddress, findRegion, foundValues}
-use Rattle.stage2.specs.Policy.{regionsHeld, allowRange, handleRange}
+use Rattle.stage2_range.specs.Ranges.{alignDown, alignUp, alignedNumber, alignedValue}
 use Rattle.data_abort.specs.declared.TrapRegisters.{TrapRegisters}
 use Rattle.lent_words.specs.Words.{bytesOf}
 pub use Rattle.lent_words.specs.Words.{Left, Leaves, unlessRefused}
@@ -16,45 +13,14 @@ unfoldable pub use Rattle.lent_core.specs.Calls.{saveCall, readCall, writeCall}
 unfoldable pub use Rattle.lent_trap.specs.LentTrap.{trapCall}
 unfoldable pub use Rattle.lent_reply.specs.LentReply.{replyCall}
 unfoldable pub use Rattle.lent_map.specs.Calls.{insertCall, getCall, removeCall}
-use Rattle.lent_policy.specs.Layout.{policyAt, withAllowedOf, withRegionsOf}
+unfoldable pub use Rattle.lent_policy.specs.Calls.{allowCall, handleCall, findCall}
+use Rattle.lent_policy.specs.Layout.{policySize}
 use Rattle.lent_cores.specs.Layout.{coresSize, registersSize, valuesSize, trapResultSize}
 use Rattle.lent_map.specs.Layout.{mapSize}
 
 -- the four numbers of `ritm_trap`
 abbrev pub trapRegisters : ℕ → ℕ → ℕ → ℕ → TrapRegisters
 trapRegisters esr fipa far vbar = record { esr = esr; fipa = record { 0 = fipa }; far = far; vbar = vbar }
-
--- `ritm_allow_range`: the allowed ranges are written, and no byte of the regions
-unfoldable pub allowCall : List ℕ → ℕ → ℕ → ℕ → Left
-allowCall policy base size attributes =
-    let built = allowRange (policyAt policy) base size attributes in
-    let number = resultNumber (built .answer) in
-    record {
-      number = number;
-      state = unlessRefused number policy (withAllowedOf policy (built .policy));
-      result = [];
-    }
-
--- `ritm_handle_range`: the regions are written, and no byte of the allowed ranges
-unfoldable pub handleCall : List ℕ → ℕ → ℕ → ℕ → ℕ → Left
-handleCall policy base size read write =
-    let built = handleRange (policyAt policy) base size read write in
-    let number = resultNumber (built .answer) in
-    record {
-      number = number;
-      state = unlessRefused number policy (withRegionsOf policy (built .policy));
-      result = [];
-    }
-
--- `ritm_find`
-unfoldable pub findCall : List ℕ → ℕ → Left
-findCall policy ipa =
-    let regions = regionsHeld (policyAt policy) in
-    record {
-      number = 0;
-      state = policy;
-      result = bytesOf (foundValues (firstIndex (hasAddress ipa) regions) (findRegion regions (record { 0 = ipa })));
-    }
 
 -- `ritm_decode`: IPA, bits, WnR, Rt, SSE, SF
 unfoldable pub decodeCall : ℕ → ℕ → ℕ → Left
@@ -80,7 +46,7 @@ alignUpCall address =
 
 -- the lengths of the lent buffers, in bytes: policy, cores, map, registers, values; and the results of a trap, of find, an entry, an access, a word
 abbrev pub bufferSizes : List ℕ
-bufferSizes = 1680 ∷ coresSize ∷ mapSize ∷ registersSize ∷ valuesSize ∷ trapResultSize ∷ 24 ∷ 24 ∷ 48 ∷ 8 ∷ []
+bufferSizes = policySize ∷ coresSize ∷ mapSize ∷ registersSize ∷ valuesSize ∷ trapResultSize ∷ 24 ∷ 24 ∷ 48 ∷ 8 ∷ []
 
 -- `ritm_buffer_size`: the length of a buffer by its number, and 0 where there is none
 unfoldable pub bufferSize : ℕ → ℕ

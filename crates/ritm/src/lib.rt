@@ -4,7 +4,7 @@ ghost use mathlib.Core.Path.{_≡_};
 ghost use mathlib.Core.List.{[]};
 ghost use lib.ListN.{replicate};
 ghost use Rattle.hypervisor.specs.Cores.{freshCores};
-ghost use Rattle.lent_policy.specs.Layout.{policyAt};
+ghost use Rattle.lent_policy.specs.Layout.{policyAt, policySize};
 ghost use Rattle.lent_cores.specs.Layout.{coresAt, counterAt, coresSize};
 ghost use Rattle.lent_map.specs.Layout.{mapAt, mapSize};
 ghost use Rattle.simple_map.specs.Map.{emptyMap};
@@ -27,7 +27,7 @@ use memory_access::MemoryAccess;
 // No range, no region.
 #[no_mangle]
 pub extern "C" fn ritm_fresh_policy(policy: &mut [u8; POLICY_SIZE]) -> u64
-    ensures { λ r. ⌜ (r ≡ 0) × (now (policy .exit) ≡ replicate 1680 0) × (policyAt (now (policy .exit)) ≡ freshPolicy) ⌝ }
+    ensures { λ r. ⌜ (r ≡ 0) × (now (policy .exit) ≡ replicate policySize 0) × (policyAt (now (policy .exit)) ≡ freshPolicy) ⌝ }
 {
     *policy = [0u8; POLICY_SIZE];
     0
@@ -62,10 +62,9 @@ pub extern "C" fn ritm_allow_range(
     size: u64,
     attributes: u64,
 ) -> u64
-    ensures { λ r. ⌜ (r ≡ allowCall (now (policy .entry)) «base_ipa» size attributes .number)
-        × (now (policy .exit) ≡ allowCall (now (policy .entry)) «base_ipa» size attributes .state) ⌝ }
+    ensures { λ r. ⌜ Leaves (allowCall (now (policy .entry)) «base_ipa» size attributes) r (now (policy .exit)) [] ⌝ }
 {
-    lent_policy::allow_range(policy, base_ipa, size, attributes).number()
+    lent_policy::allow_range(policy, base_ipa, size, attributes)
 }
 
 // Has the guest's accesses to a range handled: refusals 20, 1 to 4, 6, 8, 9.
@@ -77,10 +76,9 @@ pub extern "C" fn ritm_handle_range(
     read: u64,
     write: u64,
 ) -> u64
-    ensures { λ r. ⌜ (r ≡ handleCall (now (policy .entry)) «base_ipa» size read write .number)
-        × (now (policy .exit) ≡ handleCall (now (policy .entry)) «base_ipa» size read write .state) ⌝ }
+    ensures { λ r. ⌜ Leaves (handleCall (now (policy .entry)) «base_ipa» size read write) r (now (policy .exit)) [] ⌝ }
 {
-    lent_policy::handle_range(policy, base_ipa, size, read, write).number()
+    lent_policy::handle_range(policy, base_ipa, size, read, write)
 }
 
 // The first region held that has the address: whether there is one, its place and the offset in it.
@@ -90,18 +88,9 @@ pub extern "C" fn ritm_find(
     ipa: u64,
     result: &mut [u8; THREE_WORDS],
 ) -> u64
-    ensures { λ r. ⌜ (r ≡ findCall (now (policy .entry)) ipa .number)
-        × (now (result .exit) ≡ findCall (now (policy .entry)) ipa .result) ⌝ }
+    ensures { λ r. ⌜ Leaves (findCall (now (policy .entry)) ipa) r (now (policy .entry)) (now (result .exit)) ⌝ }
 {
-    let place = lent_policy::find_place(policy, ipa);
-    let held = lists::held_count(lent_policy::get_region_count(policy), 16);
-    if place < held {
-        let offset = ipa - lent_policy::get_region_base(policy, place);
-        lent_words::put_three(result, 1, place, offset);
-        return 0;
-    }
-    lent_words::put_three(result, 0, 0, 0);
-    0
+    lent_policy::find(policy, ipa, result)
 }
 
 // Puts in a core's registers as the hardware saved them: refusals 10, 11.

@@ -1,5 +1,5 @@
 -- Laws on the builder's calls. Assumes nothing.
-use Prim.Native.Nat.{ℕ, _+_}
+use Prim.Native.Nat.{ℕ}
 use mathlib.Core.Path.{_≡_, refl, sym, _∙_, ap}
 use mathlib.Core.Bool.{not, _&&_, cond}
 use mathlib.Core.List.{List, _++_}
@@ -13,12 +13,12 @@ use Rattle.stage2_range.specs.declared.Stage2ConfigError.{Stage2ConfigError}
 use Rattle.stage2_range.specs.declared.Stage2ConfigError.the-variants.{RangeBaseNotPageAligned, EmptyRange, RangeSizeNotPageMultiple, RangeEndOverflow, TooManyAllowedRanges, AllowedRangeOverlap, AllowedRangeOverlapsMemoryAccessHandler, TooManyMemoryAccessHandlerRegions, MemoryAccessHandlerRangeOverlap, UnknownMemoryHandler}
 use Rattle.stage2_range.specs.declared.Stage2Result.{Stage2Result}
 use Rattle.stage2_range.specs.declared.Stage2Result.the-variants.{Accepted, Refused}
-use Rattle.stage2_range.specs.Ranges.{validateRange, overlapsAllowed, rangeCases, errorNumber, resultNumber}
-use Rattle.stage2_range.specs.Registry.{overlapsRegions, registerAnswer}
-use Rattle.stage2_range.proofs.Ranges.{validate-number, accepted-valid, valid-accepted, not-refused, allowed-apart, apart-allowed}
-use Rattle.stage2_range.proofs.Registry.{regions-apart, apart-regions}
+use Rattle.stage2_range.specs.Ranges.{validateRange, pageRange, rangeOf, rangeBytes, overlapsAllowed, rangeCases, errorNumber, resultNumber}
+use Rattle.stage2_range.specs.Handlers.{isHandler}
+use Rattle.stage2_range.specs.Registry.{regionOf, regionBytes, overlapsRegions, registerAnswer}
+use Rattle.stage2_range.proofs.Ranges.{validate-number, accepted-valid, valid-accepted, not-refused, overlaps-none, none-overlaps}
 use Rattle.stage2.specs.declared.Policy.{Policy}
-use Rattle.stage2.specs.Policy.{isHandler, allowedHeld, regionsHeld, rangeOf, regionOf, after, builtBy, allowAnswerFor, handleAnswerFor, addAllowed, addRegion, allowRange, handleRange, allowCases, handleCases, allowAnswer, handleAnswer}
+use Rattle.stage2.specs.Policy.{allowedHeld, regionsHeld, after, builtBy, allowAnswerFor, handleAnswerFor, addAllowed, addRegion, allowRange, handleRange, allowCases, handleCases, allowAnswer, handleAnswer}
 use Rattle.stage2.specs.Builds.{BuilderCall, allow, handle, build, CanAllow, CanHandle}
 
 -- no refusal has the number 0
@@ -35,7 +35,7 @@ error-not-zero MemoryAccessHandlerRangeOverlap h = omega arith
 error-not-zero UnknownMemoryHandler h = omega arith
 
 -- the number of one answer after another is that of their cases, one list after the other
-after-number : (base size : ℕ) (first rest : Stage2Result) (more : List Case) → resultNumber first ≡ firstMet (rangeCases base size)
+pub after-number : (base size : ℕ) (first rest : Stage2Result) (more : List Case) → resultNumber first ≡ firstMet (rangeCases base size)
     → resultNumber rest ≡ firstMet more → resultNumber (after first rest) ≡ firstMet (rangeCases base size ++ more)
 after-number base size Accepted rest more h k =
     k ∙ sym (met-later (rangeCases base size) more (all-numbered (rangeCases base size) refl) (sym h))
@@ -43,15 +43,15 @@ after-number base size (Refused e) rest more h k =
     h ∙ sym (met-sooner (rangeCases base size) more (λ z. error-not-zero e (h ∙ z)))
 
 -- what the calls answer
-built-answer : (s : Stage2Result) (p q : Policy) → builtBy s p q .answer ≡ s
+pub built-answer : (s : Stage2Result) (p q : Policy) → builtBy s p q .answer ≡ s
 built-answer Accepted p q = refl
 built-answer (Refused e) p q = refl
 
-allow-answer : (p : Policy) (base size attributes : ℕ) → allowRange p base size attributes .answer ≡ allowAnswer p base size attributes
+pub allow-answer : (p : Policy) (base size attributes : ℕ) → allowRange p base size attributes .answer ≡ allowAnswer p base size attributes
 unfolding allowRange
 allow-answer p base size attributes = built-answer (allowAnswer p base size attributes) p (addAllowed p (rangeOf base size attributes))
 
-handle-answer : (p : Policy) (base size read write : ℕ) → handleRange p base size read write .answer ≡ handleAnswer p base size read write
+pub handle-answer : (p : Policy) (base size read write : ℕ) → handleRange p base size read write .answer ≡ handleAnswer p base size read write
 unfolding handleRange
 handle-answer p base size read write = built-answer (handleAnswer p base size read write) p (addRegion p (regionOf base size read write))
 
@@ -60,8 +60,8 @@ pub allow-number : (p : Policy) (base size attributes : ℕ)
     → resultNumber (allowRange p base size attributes .answer) ≡ firstMet (allowCases p base size)
 unfolding allowAnswerFor
 allow-number p base size attributes =
-    let allowed = overlapsAllowed (allowedHeld p) base (base + size) in
-    let regions = overlapsRegions (regionsHeld p) base (base + size) in
+    let allowed = overlapsAllowed (allowedHeld p) (pageRange base size) in
+    let regions = overlapsRegions (regionsHeld p) (pageRange base size) in
     let range = rangeOf base size attributes in
     ap resultNumber (allow-answer p base size attributes)
     ∙ after-number base size (validateRange base size) (allowAnswerFor p range) (drop 4 (allowCases p base size))
@@ -76,8 +76,8 @@ pub handle-number : (p : Policy) (base size read write : ℕ)
 unfolding handleAnswerFor registerAnswer
 handle-number p base size read write =
     let unknown = not (isHandler read && isHandler write) in
-    let allowed = overlapsAllowed (allowedHeld p) base (base + size) in
-    let regions = overlapsRegions (regionsHeld p) base (base + size) in
+    let allowed = overlapsAllowed (allowedHeld p) (pageRange base size) in
+    let regions = overlapsRegions (regionsHeld p) (pageRange base size) in
     let region = regionOf base size read write in
     ap resultNumber (handle-answer p base size read write)
     ∙ cond-map resultNumber unknown (Refused UnknownMemoryHandler) (after (validateRange base size) (handleAnswerFor p region))
@@ -101,7 +101,7 @@ build-refused p (handle base size read write) h =
     built-refused (handleAnswer p base size read write) p (addRegion p (regionOf base size read write)) h
 
 -- where neither of two answers is a refusal, each accepts
-not-after : (first rest : Stage2Result) → after first rest ≡ Accepted → (first ≡ Accepted) × (rest ≡ Accepted)
+pub not-after : (first rest : Stage2Result) → after first rest ≡ Accepted → (first ≡ Accepted) × (rest ≡ Accepted)
 not-after Accepted rest h = (refl, h)
 not-after (Refused e) rest h = absurd (error-not-zero e (ap resultNumber h))
 
@@ -112,14 +112,14 @@ module _ (p : Policy) (base size attributes : ℕ) where
   allow-accepted h =
       let a = not-after (validateRange base size) _ (sym (allow-answer p base size attributes) ∙ h) in
       let b = not-refused (leb 32 (p .«allowed_count»)) _ _ (a .1) in
-      let c = not-refused (overlapsAllowed (allowedHeld p) base (base + size)) _ _ (b .1) in
-      let d = not-refused (overlapsRegions (regionsHeld p) base (base + size)) _ _ (c .1) in
+      let c = not-refused (overlapsAllowed (allowedHeld p) (pageRange base size)) _ _ (b .1) in
+      let d = not-refused (overlapsRegions (regionsHeld p) (pageRange base size)) _ _ (c .1) in
       record {
         fits = accepted-valid base size (a .0);
         room = leb-false 32 (p .«allowed_count») (b .0);
         apart = record {
-          from-allowed = allowed-apart (allowedHeld p) base (base + size) (c .0);
-          from-regions = regions-apart (regionsHeld p) base (base + size) (d .0);
+          from-allowed = overlaps-none rangeBytes (allowedHeld p) (pageRange base size) (c .0);
+          from-regions = overlaps-none regionBytes (regionsHeld p) (pageRange base size) (d .0);
         };
       }
 
@@ -130,8 +130,8 @@ module _ (p : Policy) (base size attributes : ℕ) where
       rw (
         valid-accepted base size (c .fits),
         lt-leb 32 (p .«allowed_count») (c .room),
-        apart-allowed (allowedHeld p) base (base + size) (c .apart .from-allowed),
-        apart-regions (regionsHeld p) base (base + size) (c .apart .from-regions),
+        none-overlaps rangeBytes (allowedHeld p) (pageRange base size) (c .apart .from-allowed),
+        none-overlaps regionBytes (regionsHeld p) (pageRange base size) (c .apart .from-regions),
       )
 
 -- A range is handled exactly where its halves are known, its arguments fit, there is room and no byte is shared.
@@ -141,16 +141,16 @@ module _ (p : Policy) (base size read write : ℕ) where
   handle-accepted h =
       let u = not-refused (not (isHandler read && isHandler write)) _ _ (sym (handle-answer p base size read write) ∙ h) in
       let a = not-after (validateRange base size) _ (u .1) in
-      let b = not-refused (overlapsAllowed (allowedHeld p) base (base + size)) _ _ (a .1) in
+      let b = not-refused (overlapsAllowed (allowedHeld p) (pageRange base size)) _ _ (a .1) in
       let c = not-refused (leb 16 (p .«region_count»)) _ _ (b .1) in
-      let d = not-refused (overlapsRegions (regionsHeld p) base (base + size)) _ _ (c .1) in
+      let d = not-refused (overlapsRegions (regionsHeld p) (pageRange base size)) _ _ (c .1) in
       record {
         handlers = not-false (isHandler read && isHandler write) (u .0);
         fits = accepted-valid base size (a .0);
         room = leb-false 16 (p .«region_count») (c .0);
         apart = record {
-          from-allowed = allowed-apart (allowedHeld p) base (base + size) (b .0);
-          from-regions = regions-apart (regionsHeld p) base (base + size) (d .0);
+          from-allowed = overlaps-none rangeBytes (allowedHeld p) (pageRange base size) (b .0);
+          from-regions = overlaps-none regionBytes (regionsHeld p) (pageRange base size) (d .0);
         };
       }
 
@@ -161,7 +161,7 @@ module _ (p : Policy) (base size read write : ℕ) where
       rw (
         c .handlers,
         valid-accepted base size (c .fits),
-        apart-allowed (allowedHeld p) base (base + size) (c .apart .from-allowed),
+        none-overlaps rangeBytes (allowedHeld p) (pageRange base size) (c .apart .from-allowed),
         lt-leb 16 (p .«region_count») (c .room),
-        apart-regions (regionsHeld p) base (base + size) (c .apart .from-regions),
+        none-overlaps regionBytes (regionsHeld p) (pageRange base size) (c .apart .from-regions),
       )

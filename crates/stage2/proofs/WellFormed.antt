@@ -14,50 +14,65 @@ use Rattle.lists.proofs.Laws.{held-within, length-insert, insert-end, inserted-
 use Rattle.memory_access.specs.declared.Ipa.{Ipa}
 use Rattle.stage2_range.specs.declared.Stage2Result.{Stage2Result}
 use Rattle.stage2_range.specs.declared.Stage2Result.the-variants.{Accepted, Refused}
+use Rattle.stage2_range.specs.declared.PageRange.{PageRange}
 use Rattle.stage2_range.specs.declared.Stage2Range.{Stage2Range}
 use Rattle.stage2_range.specs.declared.MemoryAccessRegion.{MemoryAccessRegion}
 use Rattle.stage2_range.specs.declared.RegionFound.{RegionFound}
 use Rattle.stage2_range.specs.declared.RegionFound.the-variants.{Nothing, Match}
-use Rattle.stage2_range.specs.Ranges.{sharesByte, resultNumber}
-use Rattle.stage2_range.specs.Registry.{findRegion, insertRegion}
-use Rattle.stage2_range.proofs.Ranges.{shares-sym, byte-common}
-use Rattle.stage2_range.proofs.Registry.{insert-by-base, has-address, find-none, find-held}
+use Rattle.stage2_range.specs.Ranges.{ValidRange, pageRange, hasByte, sharesByte, rangeOf, rangeBytes, resultNumber}
+use Rattle.stage2_range.specs.Registry.{regionOf, regionBytes, hasAddress, findRegion, insertRegion}
+use Rattle.stage2_range.proofs.Ranges.{shares-sym, apart-byte, valid-byte}
+use Rattle.stage2_range.proofs.Registry.{insert-by-base, find-none, find-held}
 use Rattle.stage2.specs.declared.Policy.{Policy}
-use Rattle.stage2.specs.Policy.{allowedHeld, regionsHeld, rangeOf, regionOf, freshPolicy, addAllowed, addRegion}
-use Rattle.stage2.specs.Builds.{BuilderCall, allow, handle, build, buildAll, CanAllow, CanHandle, AllApart, WellFormed}
+use Rattle.stage2.specs.Policy.{allowedHeld, regionsHeld, freshPolicy, addAllowed, addRegion}
+use Rattle.stage2.specs.Builds.{BuilderCall, allow, handle, build, buildAll, CanAllow, CanHandle, AllApart, Disjoint, WellFormed}
 use Rattle.stage2.proofs.Laws.{error-not-zero, build-refused, allow-accepted, can-allow, handle-accepted, can-handle}
 
--- Records that share no byte: an insertion keeps them so, and two of them that have an address in common are one.
-module _ {A : Type 0} (base end : A → ℕ) where
-  inserted-apart : (before : A → Bool) (y : A) (l : List A)
-      → ((x : A) → List·Memᴰ x l → sharesByte (base x) (end x) (base y) (end y) ≡ false) → AllApart base end l
-      → AllApart base end (insertBefore before y l)
+-- Records that share no byte: an insertion keeps them so, and two of them that have a byte in common are one.
+module _ {A : Type 0} (bytesOf : A → PageRange) where
+  inserted-apart : (before : A → Bool) (y : A) (l : List A) → ((x : A) → List·Memᴰ x l → sharesByte (bytesOf x) (bytesOf y) ≡ false)
+      → AllApart bytesOf l → AllApart bytesOf (insertBefore before y l)
   inserted-apart before y [] h a = ((λ x m. absurd (List·Memᴰ·not-nil m)), tt)
   inserted-apart before y (x ∷ xs) h a = go (before x) (inserted-apart before y xs (λ z m. h z (List·Memᴰ·tail m)) (a .1))
     where
-      go : (b : Bool) → AllApart base end (insertBefore before y xs)
-          → AllApart base end (cond b (y ∷ x ∷ xs) (x ∷ insertBefore before y xs))
-      go true k = ((λ z m. shares-sym (base y) (end y) (base z) (end z) ∙ h z m), a)
+      go : (b : Bool) → AllApart bytesOf (insertBefore before y xs)
+          → AllApart bytesOf (cond b (y ∷ x ∷ xs) (x ∷ insertBefore before y xs))
+      go true k = ((λ z m. shares-sym (bytesOf y) (bytesOf z) ∙ h z m), a)
       go false k =
-          (inserted-all (λ z. sharesByte (base x) (end x) (base z) (end z) ≡ false) before y xs (h x (List·Memᴰ·head refl)) (a .0), k)
+          (inserted-all (λ z. sharesByte (bytesOf x) (bytesOf z) ≡ false) before y xs (h x (List·Memᴰ·head refl)) (a .0), k)
 
   abbrev Has : ℕ → A → Type 0
-  Has ipa x = (base x ≤ ipa) × (ipa < end x)
+  Has ipa x = hasByte (bytesOf x) ipa ≡ true
 
-  not-apart : (ipa : ℕ) (x y : A) → Has ipa x → Has ipa y → sharesByte (base x) (end x) (base y) (end y) ≡ false → ⊥
-  not-apart ipa x y h k t = true≢false (sym (byte-common (base x) (end x) (base y) (end y) ipa (h .0) (h .1) (k .0) (k .1)) ∙ t)
-
-  same-with-address : (ipa : ℕ) (x y : A) → Has ipa x → Has ipa y → (l : List A) → AllApart base end l → List·Memᴰ x l → List·Memᴰ y l
+  same-with-byte : (ipa : ℕ) (x y : A) → Has ipa x → Has ipa y → (l : List A) → AllApart bytesOf l → List·Memᴰ x l → List·Memᴰ y l
       → x ≡ y
-  same-with-address ipa x y h k [] a m n = absurd (List·Memᴰ·not-nil m)
-  same-with-address ipa x y h k (z ∷ zs) a m n =
-      go (List·Memᴰ·cases-cons m) (List·Memᴰ·cases-cons n) (same-with-address ipa x y h k zs (a .1))
+  same-with-byte ipa x y h k [] a m n = absurd (List·Memᴰ·not-nil m)
+  same-with-byte ipa x y h k (z ∷ zs) a m n =
+      go (List·Memᴰ·cases-cons m) (List·Memᴰ·cases-cons n) (same-with-byte ipa x y h k zs (a .1))
     where
       go : (x ≡ z) ⊎ List·Memᴰ x zs → (y ≡ z) ⊎ List·Memᴰ y zs → (List·Memᴰ x zs → List·Memᴰ y zs → x ≡ y) → x ≡ y
       go (inl e) (inl e′) below = e ∙ sym e′
-      go (inl e) (inr n′) below = absurd (not-apart ipa x y h k (rw e (a .0 y n′)))
-      go (inr m′) (inl e′) below = absurd (not-apart ipa y x k h (rw e′ (a .0 x m′)))
+      go (inl e) (inr n′) below = absurd (apart-byte (bytesOf x) (bytesOf y) (rw e (a .0 y n′)) ipa h k)
+      go (inr m′) (inl e′) below = absurd (apart-byte (bytesOf y) (bytesOf x) (rw e′ (a .0 x m′)) ipa k h)
       go (inr m′) (inr n′) below = below m′ n′
+
+-- Records that are disjoint whole pages: none is, and one more is, where it is valid and shares no byte with them.
+module _ {A : Type 0} (sizeOf : A → ℕ) (bytesOf : A → PageRange) where
+  none-disjoint : Disjoint sizeOf bytesOf []
+  none-disjoint = record {
+    valid = λ x m. absurd (List·Memᴰ·not-nil m);
+    whole = λ x m. absurd (List·Memᴰ·not-nil m);
+    apart = tt;
+  }
+
+  inserted-disjoint : (before : A → Bool) (y : A) (l : List A) → ValidRange (bytesOf y .«base_ipa») (sizeOf y)
+      → bytesOf y ≡ pageRange (bytesOf y .«base_ipa») (sizeOf y) → ((x : A) → List·Memᴰ x l → sharesByte (bytesOf x) (bytesOf y) ≡ false)
+      → Disjoint sizeOf bytesOf l → Disjoint sizeOf bytesOf (insertBefore before y l)
+  inserted-disjoint before y l valid whole clear d = record {
+    valid = inserted-all _ before y l valid (d .valid);
+    whole = inserted-all _ before y l whole (d .whole);
+    apart = inserted-apart bytesOf before y l clear (d .apart);
+  }
 
 -- a range that is allowed stands after those held
 pub allowed-held : (p : Policy) (r : Stage2Range) → length (p .allowed) ≡ 32 → p .«allowed_count» < 32
@@ -92,18 +107,16 @@ allow-keeps : (p : Policy) (base size attributes : ℕ) → WellFormed p → Can
 unfolding addAllowed
 allow-keeps p base size attributes w c =
     let r : Stage2Range = rangeOf base size attributes in
-    let e = allowed-held p r (w .allowed-places) (c .room) in
+    let e = allowed-held p r (w .allowed-places .all) (c .room) in
+    let places = length-set (p .allowed) (p .«allowed_count») r ∙ w .allowed-places .all in
     record {
-      allowed-places = length-set (p .allowed) (p .«allowed_count») r ∙ w .allowed-places;
+      allowed-places = record { all = places; within = omega (arith, c .room) };
       region-places = w .region-places;
-      allowed-limit = omega (arith, c .room);
-      region-limit = w .region-limit;
-      allowed-valid = rw e (inserted-all _ (λ x. false) r (allowedHeld p) (c .fits, refl) (w .allowed-valid));
-      regions-valid = w .regions-valid;
-      allowed-apart = rw e (inserted-apart _ _ (λ x. false) r (allowedHeld p) (c .apart .from-allowed) (w .allowed-apart));
-      regions-apart = w .regions-apart;
+      allowed-disjoint = rw e
+          (inserted-disjoint _ _ (λ x. false) r (allowedHeld p) (c .fits) refl (c .apart .from-allowed) (w .allowed-disjoint));
+      regions-disjoint = w .regions-disjoint;
       lists-apart = rw e (inserted-all _ (λ x. false) r (allowedHeld p)
-          (λ x m. shares-sym base (base + size) (x .«base_ipa») (x .«end_ipa») ∙ c .apart .from-regions x m) (w .lists-apart));
+          (λ x m. shares-sym (rangeBytes r) (regionBytes x) ∙ c .apart .from-regions x m) (w .lists-apart));
       ascending = w .ascending;
     }
 
@@ -113,16 +126,14 @@ unfolding addRegion
 handle-keeps p base size read write w c =
     let r : MemoryAccessRegion = regionOf base size read write in
     let before : MemoryAccessRegion → Bool = λ x. leb base (x .«base_ipa») in
-    let e = regions-held p r (w .region-places) (c .room) in
+    let full = w .region-places .all in
+    let e = regions-held p r full (c .room) in
+    let places = inserted-places (p .regions) (p .«region_count») r (omega (arith, full, c .room)) ∙ full in
     record {
       allowed-places = w .allowed-places;
-      region-places = inserted-places (p .regions) (p .«region_count») r (omega (arith, w .region-places, c .room)) ∙ w .region-places;
-      allowed-limit = w .allowed-limit;
-      region-limit = omega (arith, c .room);
-      allowed-valid = w .allowed-valid;
-      regions-valid = rw e (inserted-all _ before r (regionsHeld p) (c .fits, refl) (w .regions-valid));
-      allowed-apart = w .allowed-apart;
-      regions-apart = rw e (inserted-apart _ _ before r (regionsHeld p) (c .apart .from-regions) (w .regions-apart));
+      region-places = record { all = places; within = omega (arith, c .room) };
+      allowed-disjoint = w .allowed-disjoint;
+      regions-disjoint = rw e (inserted-disjoint _ _ before r (regionsHeld p) (c .fits) refl (c .apart .from-regions) (w .regions-disjoint));
       lists-apart = λ a m. rw e (inserted-all _ before r (regionsHeld p) (c .apart .from-allowed a m) (w .lists-apart a m));
       ascending = rw e (insert-ascending (λ x. x .«base_ipa») r 0 (regionsHeld p) (omega arith) (w .ascending));
     }
@@ -131,14 +142,10 @@ handle-keeps p base size read write w c =
 pub fresh-well-formed : WellFormed freshPolicy
 unfolding freshPolicy held
 fresh-well-formed = record {
-  allowed-places = refl;
-  region-places = refl;
-  allowed-limit = omega arith;
-  region-limit = omega arith;
-  allowed-valid = λ r m. absurd (List·Memᴰ·not-nil m);
-  regions-valid = λ r m. absurd (List·Memᴰ·not-nil m);
-  allowed-apart = tt;
-  regions-apart = tt;
+  allowed-places = record { all = refl; within = omega arith };
+  region-places = record { all = refl; within = omega arith };
+  allowed-disjoint = none-disjoint _ _;
+  regions-disjoint = none-disjoint _ _;
   lists-apart = λ a m. absurd (List·Memᴰ·not-nil m);
   ascending = tt;
 }
@@ -164,16 +171,22 @@ built-well-formed calls = build-all-keeps freshPolicy calls fresh-well-formed
 
 -- the regions of a well-formed policy share no byte, so the one that has an address is found
 pub find-exact : (p : Policy) → WellFormed p → (r : MemoryAccessRegion) → List·Memᴰ r (regionsHeld p) → (ipa : Ipa)
-    → r .«base_ipa» ≤ ipa .0 → ipa .0 < r .«end_ipa»
-    → findRegion (regionsHeld p) ipa ≡ Match (record { region = r; offset = ipa .0 - r .«base_ipa» })
-find-exact p w r m ipa h k = go (findRegion (regionsHeld p) ipa) refl
+    → hasAddress (ipa .0) r ≡ true → findRegion (regionsHeld p) ipa ≡ Match (record { region = r; offset = ipa .0 - r .«base_ipa» })
+find-exact p w r m ipa h = go (findRegion (regionsHeld p) ipa) refl
   where
     go : (f : RegionFound) → findRegion (regionsHeld p) ipa ≡ f
         → findRegion (regionsHeld p) ipa ≡ Match (record { region = r; offset = ipa .0 - r .«base_ipa» })
-    go Nothing e = absurd (true≢false (sym (has-address (ipa .0) r h k) ∙ find-none (regionsHeld p) ipa e r m))
+    go Nothing e = absurd (true≢false (sym h ∙ find-none (regionsHeld p) ipa e r m))
     go (Match x) e =
         let f = find-held (regionsHeld p) ipa x e in
-        let s : x .region ≡ r =
-        same-with-address _ _ (ipa .0) (x .region) r (f .1, f .2) (h, k) (regionsHeld p) (w .regions-apart) (f .0) m in
-        let o : x .offset ≡ ipa .0 - r .«base_ipa» = f .3 ∙ rw s in
+        let apart = w .regions-disjoint .apart in
+        let s : x .region ≡ r = same-with-byte regionBytes (ipa .0) (x .region) r (f .1) h (regionsHeld p) apart (f .0) m in
+        let o : x .offset ≡ ipa .0 - r .«base_ipa» = f .2 ∙ rw s in
         e ∙ rw (← o, ← s)
+
+-- a region of a well-formed policy has each address from its base on, as many as its size says
+pub held-address : (p : Policy) → WellFormed p → (r : MemoryAccessRegion) → List·Memᴰ r (regionsHeld p) → (ipa : ℕ) → r .«base_ipa» ≤ ipa
+    → ipa < r .«base_ipa» + r .size → hasAddress ipa r ≡ true
+held-address p w r m ipa h k =
+    let d = w .regions-disjoint in
+    rw (d .whole r m) (valid-byte (r .«base_ipa») (r .size) (d .valid r m) ipa h k)

@@ -3,44 +3,20 @@
 use Prim.Native.Nat.{ℕ, _+_}
 use mathlib.Core.Bool.{Bool, not, _&&_}
 use mathlib.Core.List.{List, [], _∷_, _++_}
-use lib.Dec.{ltb, leb}
-use lib.ListN.{length, getD, set, replicate}
+use lib.Dec.{leb}
+use lib.ListN.{set, replicate}
 use Rattle.lists.specs.Lists.{held}
 use Rattle.lists.specs.Refusals.{Case, case}
 use Rattle.stage2_range.specs.declared.Stage2ConfigError.the-variants.{TooManyAllowedRanges, AllowedRangeOverlap, AllowedRangeOverlapsMemoryAccessHandler, UnknownMemoryHandler}
 use Rattle.stage2_range.specs.declared.Stage2Result.{Stage2Result}
 use Rattle.stage2_range.specs.declared.Stage2Result.the-variants.{Accepted, Refused}
 use Rattle.stage2_range.specs.declared.Stage2Range.{Stage2Range}
-use Rattle.stage2_range.specs.declared.MemoryHandler.{MemoryHandler}
-use Rattle.stage2_range.specs.declared.MemoryHandler.the-variants.{Absent, FilteredMmio}
 use Rattle.stage2_range.specs.declared.MemoryAccessRegion.{MemoryAccessRegion}
-use Rattle.stage2_range.specs.Ranges.{refuseIf, validateRange, overlapsAllowed, rangeCases}
-use Rattle.stage2_range.specs.Registry.{overlapsRegions, insertRegion, registerAnswer}
+use Rattle.stage2_range.specs.Ranges.{refuseIf, validateRange, pageRange, rangeOf, rangeBytes, overlapsAllowed, rangeCases}
+use Rattle.stage2_range.specs.Handlers.{isHandler}
+use Rattle.stage2_range.specs.Registry.{regionOf, regionBytes, overlapsRegions, insertRegion, registerAnswer}
 use Rattle.stage2.specs.declared.Policy.{Policy}
 use Rattle.stage2.specs.declared.Built.{Built}
-
--- a handler (document 01: a half) by its number: "0 absent, 1 the filtered page"
-abbrev pub handlers : List MemoryHandler
-handlers = Absent ∷ FilteredMmio ∷ []
-
-abbrev pub handlerOf : ℕ → MemoryHandler
-handlerOf number = getD handlers number Absent
-
--- 20 is met where "a half is neither 0 nor 1"
-abbrev pub isHandler : ℕ → Bool
-isHandler number = ltb number (length handlers)
-
--- the range, and the region, that a call asks for: "end = base + size"
-abbrev pub rangeOf : ℕ → ℕ → ℕ → Stage2Range
-rangeOf base size attributes = record { «base_ipa» = base; size = size; «end_ipa» = base + size; attributes = attributes }
-
-abbrev pub regionOf : ℕ → ℕ → ℕ → ℕ → MemoryAccessRegion
-regionOf base size read write = record {
-  «base_ipa» = base;
-  size = size;
-  handler = record { read = handlerOf read; write = handlerOf write };
-  «end_ipa» = base + size;
-}
 
 -- "Fresh means no range, no region"
 unfoldable pub freshPolicy : Policy
@@ -73,8 +49,8 @@ builtBy (Refused error) before next = record { answer = Refused error; policy = 
 unfoldable pub allowAnswerFor : Policy → Stage2Range → Stage2Result
 allowAnswerFor p r =
     refuseIf (leb 32 (p .«allowed_count»)) TooManyAllowedRanges
-    (refuseIf (overlapsAllowed (allowedHeld p) (r .«base_ipa») (r .«end_ipa»)) AllowedRangeOverlap
-    (refuseIf (overlapsRegions (regionsHeld p) (r .«base_ipa») (r .«end_ipa»)) AllowedRangeOverlapsMemoryAccessHandler
+    (refuseIf (overlapsAllowed (allowedHeld p) (rangeBytes r)) AllowedRangeOverlap
+    (refuseIf (overlapsRegions (regionsHeld p) (rangeBytes r)) AllowedRangeOverlapsMemoryAccessHandler
     Accepted))
 
 -- an allowed range stands after those that came before it
@@ -97,7 +73,7 @@ allowRange p base size attributes = builtBy (allowAnswer p base size attributes)
 -- refusals 6, 8 and 9: "shares a byte with an allowed range", "16 regions", "handling, shares a byte with a region"
 unfoldable pub handleAnswerFor : Policy → MemoryAccessRegion → Stage2Result
 handleAnswerFor p r =
-    refuseIf (overlapsAllowed (allowedHeld p) (r .«base_ipa») (r .«end_ipa»)) AllowedRangeOverlap
+    refuseIf (overlapsAllowed (allowedHeld p) (regionBytes r)) AllowedRangeOverlap
     (registerAnswer (p .regions) (p .«region_count») r)
 
 -- a region stands at its place by base
@@ -124,8 +100,8 @@ abbrev pub allowCases : Policy → ℕ → ℕ → List Case
 allowCases p base size =
     rangeCases base size
     ++ (case 5 (leb 32 (p .«allowed_count»))
-    ∷ case 6 (overlapsAllowed (allowedHeld p) base (base + size))
-    ∷ case 7 (overlapsRegions (regionsHeld p) base (base + size))
+    ∷ case 6 (overlapsAllowed (allowedHeld p) (pageRange base size))
+    ∷ case 7 (overlapsRegions (regionsHeld p) (pageRange base size))
     ∷ [])
 
 -- the lines of the table that `handle_range` meets, in its order
@@ -133,7 +109,7 @@ abbrev pub handleCases : Policy → ℕ → ℕ → ℕ → ℕ → List Case
 handleCases p base size read write =
     case 20 (not (isHandler read && isHandler write))
     ∷ (rangeCases base size
-    ++ (case 6 (overlapsAllowed (allowedHeld p) base (base + size))
+    ++ (case 6 (overlapsAllowed (allowedHeld p) (pageRange base size))
     ∷ case 8 (leb 16 (p .«region_count»))
-    ∷ case 9 (overlapsRegions (regionsHeld p) base (base + size))
+    ∷ case 9 (overlapsRegions (regionsHeld p) (pageRange base size))
     ∷ []))

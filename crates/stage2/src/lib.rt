@@ -3,13 +3,11 @@ ghost use mathlib.Core.Path.{_≡_};
 ghost use mathlib.Core.List.{[], _∷_};
 ghost use Rattle.stage2_range.specs.declared.Stage2Result.the-variants.{Refused};
 ghost use Rattle.stage2_range.specs.Registry.{findRegion};
-ghost use Rattle.stage2.specs.Policy.{handlerOf, freshPolicy, regionsHeld, builtBy, allowAnswerFor, addAllowed, allowRange, handleAnswerFor, addRegion, handleRange};
+ghost use Rattle.stage2.specs.Policy.{freshPolicy, regionsHeld, builtBy, allowAnswerFor, addAllowed, allowRange, handleAnswerFor, addRegion, handleRange};
 use memory_access::Ipa;
 use stage2_range::MAX_ALLOWED_RANGES;
-use stage2_range::MemoryAccessHandler;
 use stage2_range::MemoryAccessHandlerMatch;
 use stage2_range::MemoryAccessRegion;
-use stage2_range::MemoryHandler;
 use stage2_range::RegionFound;
 use stage2_range::Stage2ConfigError;
 use stage2_range::Stage2Range;
@@ -29,30 +27,13 @@ pub struct Built {
     pub policy: Policy,
 }
 
-// The highest number that names a handler.
-const LAST_MEMORY_HANDLER: u64 = 1;
-
 impl Policy {
     // The fresh policy: no range, no region.
     pub fn new() -> Self
         ensures { λ r. ⌜ r ≡ freshPolicy ⌝ }
     {
-        let range = Stage2Range {
-            base_ipa: 0,
-            size: 0,
-            end_ipa: 0,
-            attributes: 0,
-        };
-        let handler = MemoryAccessHandler {
-            read: MemoryHandler::Absent,
-            write: MemoryHandler::Absent,
-        };
-        let region = MemoryAccessRegion {
-            base_ipa: 0,
-            size: 0,
-            handler,
-            end_ipa: 0,
-        };
+        let range = Stage2Range::new(0, 0, 0);
+        let region = MemoryAccessRegion::new(0, 0, 0, 0);
         Policy {
             allowed: [range; 32],
             allowed_count: 0,
@@ -68,13 +49,7 @@ impl Policy {
         match stage2_range::validate_range(base_ipa, size) {
             Stage2Result::Refused(error) => refuse(self, error),
             Stage2Result::Accepted => {
-                let range = Stage2Range {
-                    base_ipa,
-                    size,
-                    end_ipa: base_ipa + size,
-                    attributes,
-                };
-                allow_valid(self, range)
+                allow_valid(self, Stage2Range::new(base_ipa, size, attributes))
             }
         }
     }
@@ -84,26 +59,16 @@ impl Policy {
     pub fn handle_range(self, base_ipa: u64, size: u64, read: u64, write: u64) -> Built
         ensures { λ r. ⌜ r ≡ handleRange self «base_ipa» size read write ⌝ }
     {
-        if LAST_MEMORY_HANDLER < read {
+        if !stage2_range::is_handler(read) {
             return refuse(self, Stage2ConfigError::UnknownMemoryHandler);
         }
-        if LAST_MEMORY_HANDLER < write {
+        if !stage2_range::is_handler(write) {
             return refuse(self, Stage2ConfigError::UnknownMemoryHandler);
         }
         match stage2_range::validate_range(base_ipa, size) {
             Stage2Result::Refused(error) => refuse(self, error),
             Stage2Result::Accepted => {
-                let handler = MemoryAccessHandler {
-                    read: memory_handler(read),
-                    write: memory_handler(write),
-                };
-                let region = MemoryAccessRegion {
-                    base_ipa,
-                    size,
-                    handler,
-                    end_ipa: base_ipa + size,
-                };
-                handle_valid(self, region)
+                handle_valid(self, MemoryAccessRegion::new(base_ipa, size, read, write))
             }
         }
     }
@@ -126,16 +91,6 @@ fn refuse(policy: Policy, error: Stage2ConfigError) -> Built
     }
 }
 
-// The handler that a number names: the absent one where it names no other.
-pub fn memory_handler(number: u64) -> MemoryHandler
-    ensures { λ r. ⌜ r ≡ handlerOf number ⌝ }
-{
-    match number {
-        1 => MemoryHandler::FilteredMmio,
-        _ => MemoryHandler::Absent,
-    }
-}
-
 // Refusals 5 to 7, in order; an accepted range goes after those that are held.
 fn allow_valid(policy: Policy, range: Stage2Range) -> Built
     ensures { λ r. ⌜ r ≡ builtBy (allowAnswerFor policy range) policy (addAllowed policy range) ⌝ }
@@ -143,13 +98,14 @@ fn allow_valid(policy: Policy, range: Stage2Range) -> Built
     let allowed = policy.allowed;
     let regions = policy.regions;
     let count = policy.allowed_count;
+    let bytes = range.bytes();
     if MAX_ALLOWED_RANGES <= count {
         return refuse(policy, Stage2ConfigError::TooManyAllowedRanges);
     }
-    if stage2_range::overlaps_allowed(allowed, count, range.base_ipa, range.end_ipa) {
+    if stage2_range::overlaps_allowed(allowed, count, bytes) {
         return refuse(policy, Stage2ConfigError::AllowedRangeOverlap);
     }
-    if stage2_range::overlaps_regions(regions, policy.region_count, range.base_ipa, range.end_ipa) {
+    if stage2_range::overlaps_regions(regions, policy.region_count, bytes) {
         return refuse(
             policy,
             Stage2ConfigError::AllowedRangeOverlapsMemoryAccessHandler,
@@ -170,12 +126,7 @@ fn handle_valid(policy: Policy, region: MemoryAccessRegion) -> Built
 {
     let allowed = policy.allowed;
     let regions = policy.regions;
-    if stage2_range::overlaps_allowed(
-        allowed,
-        policy.allowed_count,
-        region.base_ipa,
-        region.end_ipa,
-    ) {
+    if stage2_range::overlaps_allowed(allowed, policy.allowed_count, region.bytes()) {
         return refuse(policy, Stage2ConfigError::AllowedRangeOverlap);
     }
     let registered = stage2_range::register(regions, policy.region_count, region);
@@ -197,16 +148,13 @@ fn find_here(region: MemoryAccessRegion, ipa: Ipa) -> RegionFound
     ensures { λ r. ⌜ r ≡ findRegion (region ∷ []) ipa ⌝ }
 {
     let address = ipa.0;
-    if address < region.base_ipa {
-        return RegionFound::Nothing;
+    if region.bytes().has_byte(address) {
+        return RegionFound::Match(MemoryAccessHandlerMatch {
+            region,
+            offset: address - region.base_ipa,
+        });
     }
-    if region.end_ipa <= address {
-        return RegionFound::Nothing;
-    }
-    RegionFound::Match(MemoryAccessHandlerMatch {
-        region,
-        offset: address - region.base_ipa,
-    })
+    RegionFound::Nothing
 }
 
 // The same search over regions that are lent, in a slice of any length.

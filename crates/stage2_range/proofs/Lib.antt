@@ -1,3 +1,4 @@
 -- Laws that the proofs of this crate and of those above cite.
 pub mod Ranges
+pub mod Handlers
 pub mod Registry

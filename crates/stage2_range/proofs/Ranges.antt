@@ -1,73 +1,182 @@
 -- Laws on ranges. Assumes nothing.
 use Prim.Native.Nat.{ℕ, _+_, _-_, _%_, _^_, _≤_, _<_, min, max}
 use mathlib.Core.Path.{_≡_, refl, sym, _∙_, ap}
-use mathlib.Core.Bool.{Bool, true, false, not, cond, true≢false}
+use mathlib.Core.Bool.{Bool, true, false, not, _&&_, cond, true≢false}
 use mathlib.Core.List.{List, List·Memᴰ}
 use native.Mathlib.Omega.{arith}
-use borrow.Author.Tests.{lt-ltb, le-ltb, lt-leb, eq-eqb, ne-eqb, ltb-true, ltb-false, leb-false, eqb-true, eqb-false, not-false}
+use borrow.Author.Tests.{lt-ltb, le-ltb, le-leb, eq-eqb, ne-eqb, ltb-true, ltb-false, leb-true, eqb-true, eqb-false, not-false}
 use lib.Dec.{ltb, leb, eqb}
+use lib.ListN.{length, getD}
+use Rattle.lists.specs.Lists.{held}
 use Rattle.lists.specs.Refusals.{firstMet}
-use Rattle.lists.proofs.Laws.{first-none, none-first, cond-map}
+use Rattle.lists.proofs.Laws.{FirstLeft, first-here, first-later, first-none, none-first, both-true, cond-map}
 use Rattle.stage2_range.specs.declared.Stage2ConfigError.{Stage2ConfigError}
 use Rattle.stage2_range.specs.declared.Stage2Result.{Stage2Result}
 use Rattle.stage2_range.specs.declared.Stage2Result.the-variants.{Accepted}
-use Rattle.stage2_range.specs.declared.Stage2Range.{Stage2Range}
-use Rattle.stage2_range.specs.Ranges.{refuseIf, pageMultiple, rangeCases, validateRange, ValidRange, resultNumber, sharesByte, overlapsAllowed, alignDown, alignUp, alignedNumber}
+use Rattle.stage2_range.specs.declared.PageRange.{PageRange}
+use Rattle.stage2_range.specs.Ranges.{refuseIf, pageMultiple, largestEnd, rangeCases, validateRange, ValidRange, resultNumber, pageRange, hasByte, sharesByte, overlaps, alignDown, alignUp, alignedNumber}
 
 -- two tests that imply each other are equal
-ltb-ext : (a b c d : ℕ) → (a < b → c < d) → (c < d → a < b) → ltb a b ≡ ltb c d
-ltb-ext a b c d f g = go (ltb a b) (ltb c d) refl refl
-  where
-    go : (t u : Bool) → ltb a b ≡ t → ltb c d ≡ u → t ≡ u
-    go true true e e' = refl
-    go true false e e' = absurd (omega (arith, f (ltb-true a b e), ltb-false c d e'))
-    go false true e e' = absurd (omega (arith, g (ltb-true c d e'), ltb-false a b e))
-    go false false e e' = refl
+test-ext : (t u : Bool) → (t ≡ true → u ≡ true) → (u ≡ true → t ≡ true) → t ≡ u
+test-ext true u f g = sym (f refl)
+test-ext false true f g = g refl
+test-ext false false f g = refl
 
--- Two ranges share a byte where there is a byte that lies in both.
-module _ (base end base′ end′ : ℕ) where
-  pub common-byte : sharesByte base end base′ end′ ≡ true → (x : ℕ) × (base ≤ x) × (x < end) × (base′ ≤ x) × (x < end′)
+-- A byte of a range lies from its base up to its end.
+module _ (r : PageRange) (ipa : ℕ) where
+  between : r .«base_ipa» ≤ ipa → ipa < r .«end_ipa» → hasByte r ipa ≡ true
+  unfolding hasByte
+  between h k = rw (le-leb (r .«base_ipa») ipa h, lt-ltb ipa (r .«end_ipa») k)
+
+  pub byte-above : hasByte r ipa ≡ true → r .«base_ipa» ≤ ipa
+  unfolding hasByte
+  byte-above t = leb-true (r .«base_ipa») ipa (both-true (leb (r .«base_ipa») ipa) (ltb ipa (r .«end_ipa»)) t .0)
+
+  byte-below : hasByte r ipa ≡ true → ipa < r .«end_ipa»
+  unfolding hasByte
+  byte-below t = ltb-true ipa (r .«end_ipa») (both-true (leb (r .«base_ipa») ipa) (ltb ipa (r .«end_ipa»)) t .1)
+
+-- Two ranges share a byte where there is a byte that both have.
+module _ (r s : PageRange) where
+  abbrev first : ℕ
+  first = max (r .«base_ipa») (s .«base_ipa»)
+
+  abbrev end : ℕ
+  end = min (r .«end_ipa») (s .«end_ipa»)
+
+  pub common-byte : sharesByte r s ≡ true → (ipa : ℕ) × (hasByte r ipa ≡ true) × (hasByte s ipa ≡ true)
   unfolding sharesByte
   common-byte t =
-      let h : max base base′ < min end end′ = ltb-true (max base base′) (min end end′) t in
-      (max base base′, omega arith, omega arith, omega arith, omega arith)
+      let h : first < end = ltb-true first end t in
+      (first, between r first (omega arith) (omega arith), between s first (omega arith) (omega arith))
 
-  pub byte-common : (x : ℕ) → base ≤ x → x < end → base′ ≤ x → x < end′ → sharesByte base end base′ end′ ≡ true
+  pub byte-common : (ipa : ℕ) → hasByte r ipa ≡ true → hasByte s ipa ≡ true → sharesByte r s ≡ true
   unfolding sharesByte
-  byte-common x a b c d = lt-ltb (max base base′) (min end end′) (omega arith)
+  byte-common ipa h k = lt-ltb first end (omega (arith, byte-above r ipa h, byte-below r ipa h, byte-above s ipa k, byte-below s ipa k))
 
   -- the order of the two does not matter
-  pub shares-sym : sharesByte base end base′ end′ ≡ sharesByte base′ end′ base end
+  pub shares-sym : sharesByte r s ≡ sharesByte s r
   unfolding sharesByte
-  shares-sym = ltb-ext (max base base′) (min end end′) (max base′ base) (min end′ end) (λ h. omega arith) (λ h. omega arith)
+  shares-sym =
+      let first′ = max (s .«base_ipa») (r .«base_ipa») in
+      let end′ = min (s .«end_ipa») (r .«end_ipa») in
+      test-ext (ltb first end) (ltb first′ end′)
+      (λ t. lt-ltb first′ end′ (omega (arith, ltb-true first end t)))
+      (λ t. lt-ltb first end (omega (arith, ltb-true first′ end′ t)))
 
-  -- two ranges that are not empty and share no byte have different bases
-  pub apart-bases : base < end → base′ < end′ → sharesByte base end base′ end′ ≡ false → base ≡ base′ → ⊥
+  -- no byte of one is one of the other where they share none
+  pub apart-byte : sharesByte r s ≡ false → (ipa : ℕ) → hasByte r ipa ≡ true → hasByte s ipa ≡ true → ⊥
+  apart-byte t ipa h k = true≢false (sym (byte-common ipa h k) ∙ t)
+
+  -- two that have their bases and share no byte have different bases
+  pub apart-bases : hasByte r (r .«base_ipa») ≡ true → hasByte s (s .«base_ipa») ≡ true → sharesByte r s ≡ false
+      → r .«base_ipa» ≡ s .«base_ipa» → ⊥
+  apart-bases h k t e = apart-byte t (r .«base_ipa») h (ap (hasByte s) e ∙ k)
+
+  -- none is empty, and each begins before the other ends
+  abbrev s-before : Bool
+  s-before = ltb (s .«base_ipa») (r .«end_ipa»)
+
+  abbrev r-before : Bool
+  r-before = ltb (r .«base_ipa») (s .«end_ipa»)
+
+  abbrev r-some : Bool
+  r-some = ltb (r .«base_ipa») (r .«end_ipa»)
+
+  abbrev s-some : Bool
+  s-some = ltb (s .«base_ipa») (s .«end_ipa»)
+
+  pub shares-all : (((r-some && s-some) && r-before) && s-before) ≡ sharesByte r s
   unfolding sharesByte
-  apart-bases h k t e = omega (arith, ltb-false (max base base′) (min end end′) t)
+  shares-all = test-ext (((r-some && s-some) && r-before) && s-before) (ltb first end) to from
+    where
+      to : (((r-some && s-some) && r-before) && s-before) ≡ true → ltb first end ≡ true
+      to t =
+          let a = both-true ((r-some && s-some) && r-before) s-before t in
+          let b = both-true (r-some && s-some) r-before (a .0) in
+          let c = both-true r-some s-some (b .0) in
+          let h : r .«base_ipa» < r .«end_ipa» = ltb-true _ _ (c .0) in
+          let k : s .«base_ipa» < s .«end_ipa» = ltb-true _ _ (c .1) in
+          let l : r .«base_ipa» < s .«end_ipa» = ltb-true _ _ (b .1) in
+          let m : s .«base_ipa» < r .«end_ipa» = ltb-true _ _ (a .1) in
+          lt-ltb first end (omega arith)
 
-  -- an end at or below either base: no byte is shared
-  pub shares-none : min end end′ ≤ max base base′ → false ≡ sharesByte base end base′ end′
-  unfolding sharesByte
-  shares-none h = sym (le-ltb (max base base′) (min end end′) h)
+      from : ltb first end ≡ true → (((r-some && s-some) && r-before) && s-before) ≡ true
+      from t =
+          let h : first < end = ltb-true first end t in
+          rw (
+            lt-ltb (s .«base_ipa») (r .«end_ipa») (omega arith),
+            lt-ltb (r .«base_ipa») (s .«end_ipa») (omega arith),
+            lt-ltb (r .«base_ipa») (r .«end_ipa») (omega arith),
+            lt-ltb (s .«base_ipa») (s .«end_ipa») (omega arith),
+          )
 
-  -- where the other ends lie above the bases, the last decides
-  pub shares-last : base < end → base′ < end′ → base < end′ → ltb base′ end ≡ sharesByte base end base′ end′
-  unfolding sharesByte
-  shares-last h k l = ltb-ext base′ end (max base base′) (min end end′) (λ x. omega arith) (λ x. omega arith)
+-- What a test of its bytes says, it says of a record.
+pub has-told : (ipa : ℕ) {r b : PageRange} {t v : Bool} → t ≡ hasByte r ipa → r ≡ b → t ≡ v → hasByte b ipa ≡ v
+has-told ipa e f h = ap (λ (r : PageRange). hasByte r ipa) (sym f) ∙ sym e ∙ h
 
--- No allowed range overlaps exactly where none shares a byte.
-pub allowed-apart : (ranges : List Stage2Range) (base end : ℕ) → overlapsAllowed ranges base end ≡ false → (r : Stage2Range)
-    → List·Memᴰ r ranges → sharesByte (r .«base_ipa») (r .«end_ipa») base end ≡ false
-unfolding overlapsAllowed
-allowed-apart ranges base end e =
-    first-none (λ r. sharesByte (r .«base_ipa») (r .«end_ipa») base end) (λ r. true) false (λ r t. true≢false) ranges e
+shares-told : (s : PageRange) {r b : PageRange} {t v : Bool} → t ≡ sharesByte r s → r ≡ b → t ≡ v → sharesByte b s ≡ v
+shares-told s e f h = ap (λ (r : PageRange). sharesByte r s) (sym f) ∙ sym e ∙ h
 
-pub apart-allowed : (ranges : List Stage2Range) (base end : ℕ)
-    → ((r : Stage2Range) → List·Memᴰ r ranges → sharesByte (r .«base_ipa») (r .«end_ipa») base end ≡ false)
-    → overlapsAllowed ranges base end ≡ false
-unfolding overlapsAllowed
-apart-allowed ranges base end h = none-first (λ r. sharesByte (r .«base_ipa») (r .«end_ipa») base end) (λ r. true) false ranges h
+-- A valid base and size have as many bytes as the size says, from the base on.
+module _ (base size : ℕ) (v : ValidRange base size) where
+  pub valid-byte : (ipa : ℕ) → base ≤ ipa → ipa < base + size → hasByte (pageRange base size) ipa ≡ true
+  valid-byte ipa h k = between (pageRange base size) ipa h (rw (le-ltb largestEnd (base + size) (v .ends)) k)
+
+  pub byte-valid : (ipa : ℕ) → hasByte (pageRange base size) ipa ≡ true → (base ≤ ipa) × (ipa < base + size)
+  byte-valid ipa t = (
+    byte-above (pageRange base size) ipa t,
+    rw (le-ltb largestEnd (base + size) (v .ends)) at (byte-below (pageRange base size) ipa t),
+  )
+
+  -- they are not empty
+  pub base-byte : hasByte (pageRange base size) base ≡ true
+  base-byte = valid-byte base (omega arith) (omega (arith, v .not-empty))
+
+  -- a range from where they end on shares none of them
+  pub touching-apart : (size′ : ℕ) → sharesByte (pageRange base size) (pageRange (base + size) size′) ≡ false
+  touching-apart size′ = go (sharesByte (pageRange base size) next) refl
+    where
+      next : PageRange
+      next = pageRange (base + size) size′
+
+      go : (b : Bool) → sharesByte (pageRange base size) next ≡ b → b ≡ false
+      go false t = refl
+      go true t =
+          let c = common-byte (pageRange base size) next t in
+          absurd (omega (arith, byte-valid (c .0) (c .1), byte-above next (c .0) (c .2)))
+
+-- No record overlaps exactly where none shares a byte.
+module _ {A : Type 0} (bytesOf : A → PageRange) (records : List A) (bytes : PageRange) where
+  pub overlaps-none : overlaps bytesOf records bytes ≡ false → (x : A) → List·Memᴰ x records → sharesByte (bytesOf x) bytes ≡ false
+  unfolding overlaps
+  overlaps-none e = first-none (λ x. sharesByte (bytesOf x) bytes) (λ x. true) false (λ x t. true≢false) records e
+
+  pub none-overlaps : ((x : A) → List·Memᴰ x records → sharesByte (bytesOf x) bytes ≡ false) → overlaps bytesOf records bytes ≡ false
+  unfolding overlaps
+  none-overlaps h = none-first (λ x. sharesByte (bytesOf x) bytes) (λ x. true) false records h
+
+  -- what a test of a record's bytes says, it says of the record
+  pub overlaps-told : {r : PageRange} {t v : Bool} → t ≡ overlaps bytesOf records r → r ≡ bytes → t ≡ v → overlaps bytesOf records bytes ≡ v
+  overlaps-told e f h = ap (overlaps bytesOf records) (sym f) ∙ sym e ∙ h
+
+-- A loop looks for an overlap among the first `m` records of an array: at place `i` those not yet passed decide.
+abbrev pub OverlapLeft : {A : Type 0} → (A → PageRange) → PageRange → List A → ℕ → ℕ → Bool → Type 0
+OverlapLeft bytesOf bytes array m i v = FirstLeft (λ x. sharesByte (bytesOf x) bytes) (λ x. true) false array m i v
+
+module _ {A : Type 0} (bytesOf : A → PageRange) (bytes : PageRange) where
+  pub overlap-begins : (limit count : ℕ) (array : List A)
+      → OverlapLeft bytesOf bytes array (min count limit) 0 (overlaps bytesOf (held limit count array) bytes)
+  unfolding overlaps held
+  overlap-begins limit count array = record { within = omega arith; left = refl }
+
+  module _ {array : List A} {m i : ℕ} {v : Bool} (inv : OverlapLeft bytesOf bytes array m i v) (below : i < m) (full : m ≤ length array) (d : A)
+      {r : PageRange} {t : Bool} (tested : t ≡ sharesByte r bytes) (read : r ≡ bytesOf (getD array i d)) where
+    pub overlap-here : t ≡ true → true ≡ v
+    overlap-here h = first-here inv below full d (shares-told bytes tested read h)
+
+    pub overlap-later : t ≡ false → OverlapLeft bytesOf bytes array m (i + 1) v
+    overlap-later h = first-later inv below full d (shares-told bytes tested read h)
 
 -- where nothing is refused, the test failed and nothing that follows is refused
 pub not-refused : (test : Bool) (e : Stage2ConfigError) (rest : Stage2Result) → refuseIf test e rest ≡ Accepted
@@ -82,12 +191,12 @@ accepted-valid base size h =
     let a = not-refused (not (eqb (base % 4096) 0)) _ _ h in
     let b = not-refused (eqb size 0) _ _ (a .1) in
     let c = not-refused (not (eqb (size % 4096) 0)) _ _ (b .1) in
-    let d = not-refused (leb (2 ^ 64) (base + size)) _ _ (c .1) in
+    let d = not-refused (ltb largestEnd (base + size)) _ _ (c .1) in
     record {
       base-aligned = eqb-true _ _ (not-false _ (a .0));
       not-empty = eqb-false size 0 (b .0);
       whole-pages = eqb-true _ _ (not-false _ (c .0));
-      ends = leb-false _ _ (d .0);
+      ends = ltb-false _ _ (d .0);
     }
 
 pub valid-accepted : (base size : ℕ) → ValidRange base size → validateRange base size ≡ Accepted
@@ -97,7 +206,7 @@ valid-accepted base size v =
       eq-eqb (base % 4096) 0 (v .base-aligned),
       ne-eqb size 0 (v .not-empty),
       eq-eqb (size % 4096) 0 (v .whole-pages),
-      lt-leb (2 ^ 64) (base + size) (v .ends),
+      le-ltb largestEnd (base + size) (v .ends),
     )
 
 -- "1 to 4 in order", first met wins
@@ -107,7 +216,7 @@ validate-number base size =
     cond-map resultNumber (not (pageMultiple base)) _ _
     ∙ ap (cond (not (pageMultiple base)) 1) (cond-map resultNumber (eqb size 0) _ _
     ∙ ap (cond (eqb size 0) 2) (cond-map resultNumber (not (pageMultiple size)) _ _
-    ∙ ap (cond (not (pageMultiple size)) 3) (cond-map resultNumber (leb (2 ^ 64) (base + size)) _ _)))
+    ∙ ap (cond (not (pageMultiple size)) 3) (cond-map resultNumber (ltb largestEnd (base + size)) _ _)))
 
 -- 18 exactly above 2^64 - 4,096
 pub aligned-number : (address : ℕ) → alignedNumber (alignUp address) ≡ cond (ltb (2 ^ 64 - 4096) address) 18 0

@@ -1,40 +1,31 @@
 -- Laws on the searches of the regions and on the registry. Assumes nothing.
 use Prim.Native.Nat.{ℕ, _+_, _-_, _≤_, _<_, min}
 use mathlib.Core.Path.{_≡_, refl, sym, _∙_, ap}
-use mathlib.Core.Bool.{Bool, true, false, cond, true≢false}
+use mathlib.Core.Bool.{Bool, true, false, cond}
 use mathlib.Core.List.{List, [], _∷_, _++_, List·Memᴰ}
 use native.Mathlib.Omega.{arith}
 use native.Mathlib.Numerals.{add-one}
-use borrow.Author.Tests.{lt-ltb, le-leb, lt-leb, ltb-true, leb-true}
+use borrow.Author.Tests.{lt-ltb, le-leb, lt-leb}
 use lib.Dec.{ltb, leb}
 use lib.ListN.{length, take, drop, getD}
 use lib.Seq.{length-take-le, getD-take, take-at, drop-at}
 use Rattle.lists.specs.Lists.{held, firstIndex, insertBefore, insertAt, Ascending}
-use Rattle.lists.proofs.Laws.{length-held, held-within, any-at, first-at, first-missing, index-le, index-fits, first-none, none-first, length-insert, insert-at, insert-place, insert-ascending, first-fit, first-member, both-true}
+use Rattle.lists.proofs.Laws.{length-held, held-within, any-at, first-at, first-missing, index-le, index-fits, first-none, none-first, length-insert, insert-at, insert-place, insert-ascending, first-fit, first-member}
 use Rattle.memory_access.specs.declared.Ipa.{Ipa}
 use Rattle.stage2_range.specs.declared.Stage2Result.the-variants.{Accepted, Refused}
+use Rattle.stage2_range.specs.declared.PageRange.{PageRange}
 use Rattle.stage2_range.specs.declared.MemoryAccessRegion.{MemoryAccessRegion}
 use Rattle.stage2_range.specs.declared.MemoryAccessHandlerMatch.{MemoryAccessHandlerMatch}
 use Rattle.stage2_range.specs.declared.RegionFound.{RegionFound}
 use Rattle.stage2_range.specs.declared.RegionFound.the-variants.{Nothing, Match}
-use Rattle.stage2_range.specs.Registry.{hasAddress, overlapsRegions, findRegion, insertRegion, registerAnswer, registerRegion}
-use Rattle.stage2_range.specs.Ranges.{sharesByte}
+use Rattle.stage2_range.specs.Registry.{regionBytes, hasAddress, overlapsRegions, findRegion, insertRegion, registerAnswer, registerRegion}
+use Rattle.stage2_range.specs.Ranges.{sharesByte, overlaps}
 use Rattle.stage2_range.specs.declared.Stage2ConfigError.the-variants.{TooManyMemoryAccessHandlerRegions, MemoryAccessHandlerRangeOverlap}
+use Rattle.stage2_range.proofs.Ranges.{byte-above}
 
--- a region has an address exactly where "base ≤ IPA < end"
-module _ (ipa : ℕ) (r : MemoryAccessRegion) where
-  base-below : hasAddress ipa r ≡ true → r .«base_ipa» ≤ ipa
-  base-below t = leb-true (r .«base_ipa») ipa (both-true (leb (r .«base_ipa») ipa) (ltb ipa (r .«end_ipa»)) t .0)
-
-  end-above : hasAddress ipa r ≡ true → ipa < r .«end_ipa»
-  end-above t = ltb-true ipa (r .«end_ipa») (both-true (leb (r .«base_ipa») ipa) (ltb ipa (r .«end_ipa»)) t .1)
-
-  pub has-address : r .«base_ipa» ≤ ipa → ipa < r .«end_ipa» → hasAddress ipa r ≡ true
-  has-address h k = rw (le-leb (r .«base_ipa») ipa h, lt-ltb ipa (r .«end_ipa») k)
-
--- a region shares a byte with a range
-abbrev sharing : ℕ → ℕ → MemoryAccessRegion → Bool
-sharing base end r = sharesByte (r .«base_ipa») (r .«end_ipa») base end
+-- a region shares a byte with others
+abbrev sharing : PageRange → MemoryAccessRegion → Bool
+sharing bytes r = sharesByte (regionBytes r) bytes
 
 -- a region's base is not below another's
 abbrev notBelow : MemoryAccessRegion → MemoryAccessRegion → Bool
@@ -48,12 +39,11 @@ module _ (regions : List MemoryAccessRegion) (count : ℕ) (full : length region
   pub place-within : (fits : MemoryAccessRegion → Bool) → firstIndex fits (held 16 count regions) ≤ min count 16
   place-within fits = omega (arith, index-le fits (held 16 count regions), held-length)
 
-  pub overlaps-at : (base end : ℕ)
-      → overlapsRegions (held 16 count regions) base end ≡ ltb (firstIndex (sharing base end) (held 16 count regions)) (min count 16)
-  unfolding overlapsRegions
-  overlaps-at base end =
-      any-at (sharing base end) (held 16 count regions)
-      ∙ ap (ltb (firstIndex (sharing base end) (held 16 count regions))) held-length
+  pub overlaps-at : (bytes : PageRange)
+      → overlapsRegions (held 16 count regions) bytes ≡ ltb (firstIndex (sharing bytes) (held 16 count regions)) (min count 16)
+  unfolding overlaps
+  overlaps-at bytes =
+      any-at (sharing bytes) (held 16 count regions) ∙ ap (ltb (firstIndex (sharing bytes) (held 16 count regions))) held-length
 
   module _ (ipa : Ipa) (d : MemoryAccessRegion) where
     held-at : (k : ℕ) → k < min count 16 → getD (held 16 count regions) k d ≡ getD regions k d
@@ -64,7 +54,7 @@ module _ (regions : List MemoryAccessRegion) (count : ℕ) (full : length region
         → getD regions k d .«base_ipa» ≤ ipa .0
     found-base k e h =
         let t : hasAddress (ipa .0) (getD (held 16 count regions) k d) ≡ true = rw e (index-fits (hasAddress (ipa .0)) (held 16 count regions) d (omega (arith, held-length))) in
-        base-below (ipa .0) (getD regions k d) (rw (held-at k h) at t)
+        byte-above (regionBytes (getD regions k d)) (ipa .0) (rw (held-at k h) at t)
 
     pub find-here : (k : ℕ) → k ≡ firstIndex (hasAddress (ipa .0)) (held 16 count regions) → k < min count 16
         → Match (record { region = getD regions k d; offset = ipa .0 - getD regions k d .«base_ipa» }) ≡ findRegion (held 16 count regions) ipa
@@ -87,7 +77,7 @@ unfolding insertRegion
 insert-region regions n region h k =
     rw (held-within 16 n regions h) (insert-place (notBelow region) region regions n k)
 
--- A search answers none exactly where no region has the address, and no overlap exactly where none shares a byte.
+-- A search answers none exactly where no region has the address.
 differs : (r : MemoryAccessRegion) (offset : ℕ) → Match (record { region = r; offset = offset }) ≡ Nothing → ⊥
 differs r offset e = let z : _≡_ {A = ℕ} 0 1 = cc in omega arith
 
@@ -100,17 +90,6 @@ pub none-find : (regions : List MemoryAccessRegion) (ipa : Ipa)
     → ((r : MemoryAccessRegion) → List·Memᴰ r regions → hasAddress (ipa .0) r ≡ false) → findRegion regions ipa ≡ Nothing
 unfolding findRegion
 none-find regions ipa h = none-first (hasAddress (ipa .0)) _ Nothing regions h
-
-pub regions-apart : (regions : List MemoryAccessRegion) (base end : ℕ) → overlapsRegions regions base end ≡ false → (r : MemoryAccessRegion)
-    → List·Memᴰ r regions → sharesByte (r .«base_ipa») (r .«end_ipa») base end ≡ false
-unfolding overlapsRegions
-regions-apart regions base end e = first-none (sharing base end) (λ r. true) false (λ r t. true≢false) regions e
-
-pub apart-regions : (regions : List MemoryAccessRegion) (base end : ℕ)
-    → ((r : MemoryAccessRegion) → List·Memᴰ r regions → sharesByte (r .«base_ipa») (r .«end_ipa») base end ≡ false)
-    → overlapsRegions regions base end ≡ false
-unfolding overlapsRegions
-apart-regions regions base end h = none-first (sharing base end) (λ r. true) false regions h
 
 -- The insertion: among the first n + 1 places stand the region and, in their order, the first n; the others are as they were.
 module _ (regions : List MemoryAccessRegion) (n : ℕ) (region : MemoryAccessRegion) (room : n < length regions) where
@@ -152,13 +131,13 @@ module _ (regions : List MemoryAccessRegion) (n : ℕ) (region : MemoryAccessReg
   unfolding registerRegion registerAnswer
   full-refused h = rw (le-leb 16 n h)
 
-  pub overlap-refused : n < 16 → overlapsRegions (held 16 n regions) (region .«base_ipa») (region .«end_ipa») ≡ true
+  pub overlap-refused : n < 16 → overlapsRegions (held 16 n regions) (regionBytes region) ≡ true
       → registerRegion regions n region
       ≡ record { answer = Refused MemoryAccessHandlerRangeOverlap; regions = regions; «region_count» = n }
   unfolding registerRegion registerAnswer
   overlap-refused h o = rw (lt-leb 16 n h, o)
 
-  pub apart-registered : n < 16 → overlapsRegions (held 16 n regions) (region .«base_ipa») (region .«end_ipa») ≡ false
+  pub apart-registered : n < 16 → overlapsRegions (held 16 n regions) (regionBytes region) ≡ false
       → registerRegion regions n region ≡ record { answer = Accepted; regions = insertRegion regions n region; «region_count» = n + 1 }
   unfolding registerRegion registerAnswer
   apart-registered h o = rw (lt-leb 16 n h, o)
@@ -182,8 +161,7 @@ find-first r regions ipa = go _ (hasAddress (ipa .0) r)
 -- a region that is found is one of those searched, it has the address, and the offset is counted from its base
 pub find-held : (regions : List MemoryAccessRegion) (ipa : Ipa) (m : MemoryAccessHandlerMatch) → findRegion regions ipa ≡ Match m
     → List·Memᴰ (m .region) regions
-    × (m .region .«base_ipa» ≤ ipa .0)
-    × (ipa .0 < m .region .«end_ipa»)
+    × (hasAddress (ipa .0) (m .region) ≡ true)
     × (m .offset ≡ ipa .0 - m .region .«base_ipa»)
 unfolding findRegion
 find-held regions ipa m e =
@@ -191,7 +169,6 @@ find-held regions ipa m e =
     let s : record { region = w .0; offset = ipa .0 - w .0 .«base_ipa» } ≡ m = cc in
     rw (← s) (
       first-member (hasAddress (ipa .0)) regions (w .0) (w .1),
-      base-below (ipa .0) (w .0) (w .1 .here),
-      end-above (ipa .0) (w .0) (w .1 .here),
+      w .1 .here,
       refl,
     )

@@ -1,7 +1,7 @@
 -- Ranges of guest addresses (document 01, "Range and region"; the numbers of its table of refusals). The page size is 4,096. Assumes nothing.
-use Prim.Native.Nat.{ℕ, _+_, _-_, _%_, _^_, _<_, min, max}
+use Prim.Native.Nat.{ℕ, _+_, _-_, _%_, _^_, _≤_, min, max}
 use mathlib.Core.Path.{_≡_}
-use mathlib.Core.Bool.{Bool, not, cond}
+use mathlib.Core.Bool.{Bool, not, _&&_, cond}
 use mathlib.Core.List.{List, [], _∷_}
 use lib.Dec.{ltb, leb, eqb}
 use Rattle.lists.specs.Lists.{anyOf}
@@ -10,6 +10,7 @@ use Rattle.stage2_range.specs.declared.Stage2ConfigError.{Stage2ConfigEr
 use Rattle.stage2_range.specs.declared.Stage2ConfigError.the-variants.{RangeBaseNotPageAligned, EmptyRange, RangeSizeNotPageMultiple, RangeEndOverflow, TooManyAllowedRanges, AllowedRangeOverlap, AllowedRangeOverlapsMemoryAccessHandler, TooManyMemoryAccessHandlerRegions, MemoryAccessHandlerRangeOverlap, UnknownMemoryHandler}
 use Rattle.stage2_range.specs.declared.Stage2Result.{Stage2Result}
 use Rattle.stage2_range.specs.declared.Stage2Result.the-variants.{Accepted, Refused}
+use Rattle.stage2_range.specs.declared.PageRange.{PageRange}
 use Rattle.stage2_range.specs.declared.Stage2Range.{Stage2Range}
 use Rattle.stage2_range.specs.declared.AlignedUp.{AlignedUp}
 use Rattle.stage2_range.specs.declared.AlignedUp.the-variants.{Address, NoPageAbove}
@@ -22,13 +23,17 @@ refuseIf test error rest = cond test (Refused error) rest
 abbrev pub pageMultiple : ℕ → Bool
 pageMultiple n = eqb (n % 4096) 0
 
+-- the largest end that a range may have: refusal 4 is met where "base + size ≥ 2^64"
+abbrev pub largestEnd : ℕ
+largestEnd = 2 ^ 64 - 1
+
 -- refusals 1 to 4: "base mod 4,096 is not 0", "size 0", "size mod 4,096 is not 0", "base + size ≥ 2^64"
 unfoldable pub validateRange : ℕ → ℕ → Stage2Result
 validateRange base size =
     refuseIf (not (pageMultiple base)) RangeBaseNotPageAligned
     (refuseIf (eqb size 0) EmptyRange
     (refuseIf (not (pageMultiple size)) RangeSizeNotPageMultiple
-    (refuseIf (leb (2 ^ 64) (base + size)) RangeEndOverflow
+    (refuseIf (ltb largestEnd (base + size)) RangeEndOverflow
     Accepted)))
 
 -- the same four, as lines of the table
@@ -37,7 +42,7 @@ rangeCases base size =
     case 1 (not (pageMultiple base))
     ∷ case 2 (eqb size 0)
     ∷ case 3 (not (pageMultiple size))
-    ∷ case 4 (leb (2 ^ 64) (base + size))
+    ∷ case 4 (ltb largestEnd (base + size))
     ∷ []
 
 -- the arguments of a call fit: none of 1 to 4 is met
@@ -45,16 +50,40 @@ pub record ValidRange (base size : ℕ) : Type 0 where
   pub base-aligned : base % 4096 ≡ 0
   pub not-empty : size ≡ 0 → ⊥
   pub whole-pages : size % 4096 ≡ 0
-  pub ends : base + size < 2 ^ 64
+  pub ends : base + size ≤ largestEnd
 
--- "shares a byte": two ranges, each "from its stored base up to but not including its stored end", have a byte in common, as the later
--- base lies below the earlier end
-unfoldable pub sharesByte : ℕ → ℕ → ℕ → ℕ → Bool
-sharesByte base end base′ end′ = ltb (max base base′) (min end end′)
+-- the bytes of a base and a size: "end = base + size"; none where refusal 4 is met
+abbrev pub pageRange : ℕ → ℕ → PageRange
+pageRange base size = record { «base_ipa» = base; «end_ipa» = cond (ltb largestEnd (base + size)) base (base + size) }
 
--- refusal 6: "shares a byte with an allowed range" of those held, "whatever its size says"
-unfoldable pub overlapsAllowed : List Stage2Range → ℕ → ℕ → Bool
-overlapsAllowed ranges base end = anyOf (λ r. sharesByte (r .«base_ipa») (r .«end_ipa») base end) ranges
+-- a byte is one of these: they are "those from its stored base up to but not including its stored end"
+unfoldable pub hasByte : PageRange → ℕ → Bool
+hasByte r ipa = leb (r .«base_ipa») ipa && ltb ipa (r .«end_ipa»)
+
+-- "shares a byte": some byte is one of both, as the later base lies below the earlier end
+unfoldable pub sharesByte : PageRange → PageRange → Bool
+sharesByte r s = ltb (max (r .«base_ipa») (s .«base_ipa»)) (min (r .«end_ipa») (s .«end_ipa»))
+
+-- the allowed range of a base and a size
+abbrev pub rangeOf : ℕ → ℕ → ℕ → Stage2Range
+rangeOf base size attributes =
+    record { «base_ipa» = base; size = size; «end_ipa» = pageRange base size .«end_ipa»; attributes = attributes }
+
+-- its bytes, "whatever its size says"
+abbrev pub rangeBytes : Stage2Range → PageRange
+rangeBytes r = record { «base_ipa» = r .«base_ipa»; «end_ipa» = r .«end_ipa» }
+
+-- its numbers: base, size, end, attributes
+abbrev pub rangeWords : Stage2Range → List ℕ
+rangeWords r = r .«base_ipa» ∷ r .size ∷ r .«end_ipa» ∷ r .attributes ∷ []
+
+-- "shares a byte with" one of some records, of which each has its bytes
+unfoldable pub overlaps : {A : Type 0} → (A → PageRange) → List A → PageRange → Bool
+overlaps bytesOf records bytes = anyOf (λ x. sharesByte (bytesOf x) bytes) records
+
+-- refusal 6: "shares a byte with an allowed range" of those held
+abbrev pub overlapsAllowed : List Stage2Range → PageRange → Bool
+overlapsAllowed ranges bytes = overlaps rangeBytes ranges bytes
 
 -- the page boundary at or below an address
 unfoldable pub alignDown : ℕ → ℕ

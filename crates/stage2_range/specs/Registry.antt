@@ -1,29 +1,47 @@
 -- The handled regions, held in an array and a count (document 01, "Range and region"). Records handed in may hold anything. Assumes nothing.
 use Prim.Native.Nat.{ℕ, _+_, _-_}
-use mathlib.Core.Bool.{Bool, _&&_}
+use mathlib.Core.Bool.{Bool}
 use mathlib.Core.List.{List, [], _∷_, _++_}
-use lib.Dec.{ltb, leb}
+use lib.Dec.{leb}
 use lib.ListN.{take, drop}
-use Rattle.lists.specs.Lists.{held, firstOf, anyOf, insertBefore}
+use Rattle.lists.specs.Lists.{held, firstOf, insertBefore}
 use Rattle.memory_access.specs.declared.Ipa.{Ipa}
 use Rattle.stage2_range.specs.declared.Stage2ConfigError.the-variants.{TooManyMemoryAccessHandlerRegions, MemoryAccessHandlerRangeOverlap}
 use Rattle.stage2_range.specs.declared.Stage2Result.{Stage2Result}
 use Rattle.stage2_range.specs.declared.Stage2Result.the-variants.{Accepted, Refused}
-use Rattle.stage2_range.specs.declared.MemoryHandler.{MemoryHandler}
-use Rattle.stage2_range.specs.declared.MemoryHandler.the-variants.{Absent, FilteredMmio}
+use Rattle.stage2_range.specs.declared.PageRange.{PageRange}
 use Rattle.stage2_range.specs.declared.MemoryAccessRegion.{MemoryAccessRegion}
 use Rattle.stage2_range.specs.declared.RegionFound.{RegionFound}
 use Rattle.stage2_range.specs.declared.RegionFound.the-variants.{Nothing, Match}
 use Rattle.stage2_range.specs.declared.Registered.{Registered}
-use Rattle.stage2_range.specs.Ranges.{refuseIf, sharesByte}
+use Rattle.stage2_range.specs.Ranges.{refuseIf, pageRange, hasByte, overlaps}
+use Rattle.stage2_range.specs.Handlers.{handlerOf, handlerNumber}
+
+-- the region of a base and a size, and the numbers of its handlers
+abbrev pub regionOf : ℕ → ℕ → ℕ → ℕ → MemoryAccessRegion
+regionOf base size read write = record {
+  «base_ipa» = base;
+  size = size;
+  handler = record { read = handlerOf read; write = handlerOf write };
+  «end_ipa» = pageRange base size .«end_ipa»;
+}
+
+-- its bytes, "whatever its size says"
+abbrev pub regionBytes : MemoryAccessRegion → PageRange
+regionBytes r = record { «base_ipa» = r .«base_ipa»; «end_ipa» = r .«end_ipa» }
+
+-- its numbers: base, size, end, read, write
+abbrev pub regionWords : MemoryAccessRegion → List ℕ
+regionWords r =
+    r .«base_ipa» ∷ r .size ∷ r .«end_ipa» ∷ handlerNumber (r .handler .read) ∷ handlerNumber (r .handler .write) ∷ []
 
 -- "base ≤ IPA < end": a region has an address
 abbrev pub hasAddress : ℕ → MemoryAccessRegion → Bool
-hasAddress ipa r = leb (r .«base_ipa») ipa && ltb ipa (r .«end_ipa»)
+hasAddress ipa r = hasByte (regionBytes r) ipa
 
 -- refusals 7 and 9: "shares a byte with a region" of those held
-unfoldable pub overlapsRegions : List MemoryAccessRegion → ℕ → ℕ → Bool
-overlapsRegions regions base end = anyOf (λ r. sharesByte (r .«base_ipa») (r .«end_ipa») base end) regions
+abbrev pub overlapsRegions : List MemoryAccessRegion → PageRange → Bool
+overlapsRegions regions bytes = overlaps regionBytes regions bytes
 
 -- "`find` answers the first region with base ≤ IPA < end and the offset IPA - base, else none"
 unfoldable pub findRegion : List MemoryAccessRegion → Ipa → RegionFound
@@ -39,7 +57,7 @@ insertRegion regions n region =
 unfoldable pub registerAnswer : List MemoryAccessRegion → ℕ → MemoryAccessRegion → Stage2Result
 registerAnswer regions n region =
     refuseIf (leb 16 n) TooManyMemoryAccessHandlerRegions
-    (refuseIf (overlapsRegions (held 16 n regions) (region .«base_ipa») (region .«end_ipa»)) MemoryAccessHandlerRangeOverlap
+    (refuseIf (overlapsRegions (held 16 n regions) (regionBytes region)) MemoryAccessHandlerRangeOverlap
     Accepted)
 
 -- an accepted region is inserted; a refusal leaves the registry as it was
@@ -50,11 +68,6 @@ registeredBy (Refused e) regions n region = record { answer = Refused e; regions
 -- the registry after a call
 unfoldable pub registerRegion : List MemoryAccessRegion → ℕ → MemoryAccessRegion → Registered
 registerRegion regions n region = registeredBy (registerAnswer regions n region) regions n region
-
--- document 01's numbers of the halves: "0 absent, 1 the filtered page"
-abbrev pub handlerNumber : MemoryHandler → ℕ
-handlerNumber Absent = 0
-handlerNumber FilteredMmio = 1
 
 -- the result fields of `find`: 1 where a region is found, its place among those held, and the offset in it; zeros where none is
 abbrev pub foundValues : ℕ → RegionFound → List ℕ

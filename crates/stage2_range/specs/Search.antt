@@ -6,10 +6,10 @@ use Rattle.stage2_range.specs.declared.Sought.{Sought}
 use Rattle.stage2_range.specs.declared.Sought.the-variants.{Overlap, Address, BaseNotBelow}
 use Rattle.stage2_range.specs.declared.MemoryAccessRegion.{MemoryAccessRegion}
 use Rattle.stage2_range.specs.Ranges.{sharesByte}
-use Rattle.stage2_range.specs.Registry.{hasAddress}
+use Rattle.stage2_range.specs.Registry.{regionBytes, hasAddress}
 
 -- a region is what is looked for
 abbrev pub regionFits : Sought → MemoryAccessRegion → Bool
-regionFits (Overlap base end) r = sharesByte (r .«base_ipa») (r .«end_ipa») base end
+regionFits (Overlap bytes) r = sharesByte (regionBytes r) bytes
 regionFits (Address ipa) r = hasAddress ipa r
 regionFits (BaseNotBelow base) r = leb base (r .«base_ipa»)

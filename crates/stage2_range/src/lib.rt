@@ -2,8 +2,9 @@
 ghost use mathlib.Core.Path.{_≡_};
 ghost use Prim.Native.Nat.{_≤_, _<_};
 ghost use Rattle.lists.specs.Lists.{held, firstIndex, insertAt};
-ghost use Rattle.stage2_range.specs.Ranges.{validateRange, errorNumber, resultNumber, sharesByte, overlapsAllowed, alignDown, alignUp, alignedNumber, alignedValue};
-ghost use Rattle.stage2_range.specs.Registry.{overlapsRegions, findRegion, registerRegion};
+ghost use Rattle.stage2_range.specs.Ranges.{validateRange, errorNumber, resultNumber, pageRange, hasByte, sharesByte, rangeOf, rangeBytes, rangeWords, overlapsAllowed, alignDown, alignUp, alignedNumber, alignedValue};
+ghost use Rattle.stage2_range.specs.Handlers.{handlerOf, handlerNumber, isHandler};
+ghost use Rattle.stage2_range.specs.Registry.{regionOf, regionBytes, regionWords, overlapsRegions, findRegion, registerRegion};
 ghost use Rattle.stage2_range.specs.Search.{regionFits};
 use memory_access::Ipa;
 use memory_access::MemoryAccessWidth;
@@ -40,6 +41,9 @@ pub enum MemoryHandler {
     FilteredMmio,
 }
 
+// How many handlers there are: the numbers below name one each.
+pub const MEMORY_HANDLERS: u64 = 2;
+
 pub struct MemoryAccessHandler {
     pub read: MemoryHandler,
     pub write: MemoryHandler,
@@ -68,6 +72,12 @@ pub enum MemoryReadResult {
 pub enum MemoryWriteResult {
     Handled,
     Fault,
+}
+
+// The bytes of a range or of a region: from its base up to but not including its end.
+pub struct PageRange {
+    pub base_ipa: u64,
+    pub end_ipa: u64,
 }
 
 // A range that the guest may use directly (document 01: an allowed range). (RITM's record has no attributes: they go to the page table alone.)
@@ -165,7 +175,143 @@ impl AlignedUp {
     }
 }
 
+impl MemoryHandler {
+    // The handler that a number names: the absent one where it names no other.
+    pub fn from_number(number: u64) -> Self
+        ensures { λ r. ⌜ r ≡ handlerOf number ⌝ }
+    {
+        match number {
+            1 => MemoryHandler::FilteredMmio,
+            _ => MemoryHandler::Absent,
+        }
+    }
+
+    // The number that names the handler.
+    pub fn number(self) -> u64
+        ensures { λ r. ⌜ r ≡ handlerNumber self ⌝ }
+    {
+        match self {
+            MemoryHandler::Absent => 0,
+            MemoryHandler::FilteredMmio => 1,
+        }
+    }
+}
+
+// Whether a number names a handler.
+pub fn is_handler(number: u64) -> bool
+    ensures { λ r. ⌜ r ≡ isHandler number ⌝ }
+{
+    number < MEMORY_HANDLERS
+}
+
+impl PageRange {
+    // The bytes of a base and a size: none where they would go on past the largest end, which `validate_range` refuses.
+    pub fn new(base_ipa: u64, size: u64) -> Self
+        ensures { λ r. ⌜ r ≡ pageRange «base_ipa» size ⌝ }
+    {
+        if MAX_END_IPA - size < base_ipa {
+            return PageRange {
+                base_ipa,
+                end_ipa: base_ipa,
+            };
+        }
+        PageRange {
+            base_ipa,
+            end_ipa: base_ipa + size,
+        }
+    }
+
+    // A byte is one of these.
+    pub fn has_byte(self, ipa: u64) -> bool
+        ensures { λ r. ⌜ r ≡ hasByte self ipa ⌝ }
+    {
+        (self.base_ipa <= ipa) & (ipa < self.end_ipa)
+    }
+}
+
+impl Stage2Range {
+    // The range of a base and a size.
+    pub fn new(base_ipa: u64, size: u64, attributes: u64) -> Self
+        ensures { λ r. ⌜ r ≡ rangeOf «base_ipa» size attributes ⌝ }
+    {
+        let bytes = PageRange::new(base_ipa, size);
+        Stage2Range {
+            base_ipa,
+            size,
+            end_ipa: bytes.end_ipa,
+            attributes,
+        }
+    }
+
+    // Its bytes, whatever its size says.
+    pub fn bytes(self) -> PageRange
+        ensures { λ r. ⌜ r ≡ rangeBytes self ⌝ }
+    {
+        PageRange {
+            base_ipa: self.base_ipa,
+            end_ipa: self.end_ipa,
+        }
+    }
+
+    // Its numbers.
+    pub fn words(self) -> [u64; 4]
+        ensures { λ r. ⌜ r ≡ rangeWords self ⌝ }
+    {
+        [self.base_ipa, self.size, self.end_ipa, self.attributes]
+    }
+}
+
+impl MemoryAccessRegion {
+    // The region of a base and a size, with the handlers that two numbers name.
+    pub fn new(base_ipa: u64, size: u64, read: u64, write: u64) -> Self
+        ensures { λ r. ⌜ r ≡ regionOf «base_ipa» size read write ⌝ }
+    {
+        let handler = MemoryAccessHandler {
+            read: MemoryHandler::from_number(read),
+            write: MemoryHandler::from_number(write),
+        };
+        let bytes = PageRange::new(base_ipa, size);
+        MemoryAccessRegion {
+            base_ipa,
+            size,
+            handler,
+            end_ipa: bytes.end_ipa,
+        }
+    }
+
+    // Its bytes, whatever its size says.
+    pub fn bytes(self) -> PageRange
+        ensures { λ r. ⌜ r ≡ regionBytes self ⌝ }
+    {
+        PageRange {
+            base_ipa: self.base_ipa,
+            end_ipa: self.end_ipa,
+        }
+    }
+
+    // Its numbers.
+    pub fn words(self) -> [u64; 5]
+        ensures { λ r. ⌜ r ≡ regionWords self ⌝ }
+    {
+        let handler = self.handler;
+        let read = handler.read;
+        let write = handler.write;
+        [
+            self.base_ipa,
+            self.size,
+            self.end_ipa,
+            read.number(),
+            write.number(),
+        ]
+    }
+}
+
 const STAGE2_PAGE_SIZE: u64 = 4096;
+
+// The last byte that a range may have, and the largest end.
+const MAX_LAST_IPA: u64 = 0xFFFF_FFFF_FFFF_FFFE;
+
+const MAX_END_IPA: u64 = MAX_LAST_IPA + 1;
 
 // Rounds `address` down to the nearest page boundary.
 pub fn align_down_to_page(address: u64) -> u64
@@ -198,47 +344,31 @@ pub fn validate_range(base_ipa: u64, size: u64) -> Stage2Result
     if size % STAGE2_PAGE_SIZE != 0 {
         return Stage2Result::Refused(Stage2ConfigError::RangeSizeNotPageMultiple);
     }
-    if 0xFFFF_FFFF_FFFF_FFFF - base_ipa < size {
+    if MAX_LAST_IPA - (size - 1) < base_ipa {
         return Stage2Result::Refused(Stage2ConfigError::RangeEndOverflow);
     }
     Stage2Result::Accepted
 }
 
-// Some byte lies in both ranges, each from its base up to but not including its end.
-pub fn page_ranges_overlap(
-    first_base_ipa: u64,
-    first_end_ipa: u64,
-    second_base_ipa: u64,
-    second_end_ipa: u64,
-) -> bool
-    ensures { λ r. ⌜ r ≡ sharesByte «first_base_ipa» «first_end_ipa» «second_base_ipa» «second_end_ipa» ⌝ }
+// Some byte lies in both ranges: none is empty, and each begins before the other ends.
+pub fn page_ranges_overlap(first: PageRange, second: PageRange) -> bool
+    ensures { λ r. ⌜ r ≡ sharesByte first second ⌝ }
 {
-    if first_end_ipa <= first_base_ipa {
-        return false;
-    }
-    if second_end_ipa <= second_base_ipa {
-        return false;
-    }
-    if second_end_ipa <= first_base_ipa {
-        return false;
-    }
-    second_base_ipa < first_end_ipa
+    (first.base_ipa < first.end_ipa)
+        & (second.base_ipa < second.end_ipa)
+        & (first.base_ipa < second.end_ipa)
+        & (second.base_ipa < first.end_ipa)
 }
 
-// Some allowed range that is held shares a byte with the given range.
-pub fn overlaps_allowed(
-    ranges: [Stage2Range; 32],
-    allowed_count: u64,
-    base_ipa: u64,
-    end_ipa: u64,
-) -> bool
-    ensures { λ r. ⌜ r ≡ overlapsAllowed (held 32 «allowed_count» ranges) «base_ipa» «end_ipa» ⌝ }
+// Some allowed range that is held shares a byte with the given bytes.
+pub fn overlaps_allowed(ranges: [Stage2Range; 32], allowed_count: u64, bytes: PageRange) -> bool
+    ensures { λ r. ⌜ r ≡ overlapsAllowed (held 32 «allowed_count» ranges) bytes ⌝ }
 {
     let n = lists::held_count(allowed_count, MAX_ALLOWED_RANGES);
     let mut i: u64 = 0;
     while i < n {
-        let r = ranges[i as usize];
-        if page_ranges_overlap(r.base_ipa, r.end_ipa, base_ipa, end_ipa) {
+        let range = ranges[i as usize];
+        if page_ranges_overlap(range.bytes(), bytes) {
             return true;
         }
         i += 1;
@@ -248,8 +378,8 @@ pub fn overlaps_allowed(
 
 // What a search of the regions looks for.
 enum Sought {
-    // A byte in common with a range from its base up to but not including its end.
-    Overlap(u64, u64),
+    // A byte in common with these.
+    Overlap(PageRange),
     // An address in the region.
     Address(u64),
     // A base at or above this one.
@@ -260,10 +390,8 @@ fn region_fits(region: MemoryAccessRegion, sought: Sought) -> bool
     ensures { λ r. ⌜ r ≡ regionFits sought region ⌝ }
 {
     match sought {
-        Sought::Overlap(base_ipa, end_ipa) => {
-            page_ranges_overlap(region.base_ipa, region.end_ipa, base_ipa, end_ipa)
-        }
-        Sought::Address(ipa) => region.base_ipa <= ipa && ipa < region.end_ipa,
+        Sought::Overlap(bytes) => page_ranges_overlap(region.bytes(), bytes),
+        Sought::Address(ipa) => region.bytes().has_byte(ipa),
         Sought::BaseNotBelow(base_ipa) => base_ipa <= region.base_ipa,
     }
 }
@@ -284,16 +412,15 @@ fn position(regions: [MemoryAccessRegion; 16], region_count: u64, sought: Sought
     i
 }
 
-// Some region that is held shares a byte with the given range.
+// Some region that is held shares a byte with the given bytes.
 pub fn overlaps_regions(
     regions: [MemoryAccessRegion; 16],
     region_count: u64,
-    base_ipa: u64,
-    end_ipa: u64,
+    bytes: PageRange,
 ) -> bool
-    ensures { λ r. ⌜ r ≡ overlapsRegions (held 16 «region_count» regions) «base_ipa» «end_ipa» ⌝ }
+    ensures { λ r. ⌜ r ≡ overlapsRegions (held 16 «region_count» regions) bytes ⌝ }
 {
-    let at = position(regions, region_count, Sought::Overlap(base_ipa, end_ipa));
+    let at = position(regions, region_count, Sought::Overlap(bytes));
     at < lists::held_count(region_count, MAX_MEMORY_ACCESS_HANDLERS)
 }
 
@@ -329,7 +456,7 @@ pub fn register(
             region_count,
         };
     }
-    if overlaps_regions(regions, region_count, region.base_ipa, region.end_ipa) {
+    if overlaps_regions(regions, region_count, region.bytes()) {
         return Registered {
             answer: Stage2Result::Refused(Stage2ConfigError::MemoryAccessHandlerRangeOverlap),
             regions,

@@ -3,9 +3,7 @@ use super::print::all_given;
 use super::print::columns;
 use super::print::end_row;
 use super::print::number;
-use stage2_range::MemoryAccessHandler;
 use stage2_range::MemoryAccessRegion;
-use stage2_range::MemoryHandler;
 use stage2_range::Registered;
 
 fn validate(base: u64, size: u64) {
@@ -28,17 +26,7 @@ fn align(address: u64) {
 
 // A page whose loads are handled.
 fn page(base_ipa: u64) -> MemoryAccessRegion {
-    let handler = MemoryAccessHandler {
-        read: MemoryHandler::FilteredMmio,
-        write: MemoryHandler::Absent,
-    };
-    let base_ipa = base_ipa % 0x1_0000_0000;
-    MemoryAccessRegion {
-        base_ipa,
-        size: 0x1000,
-        handler,
-        end_ipa: base_ipa + 0x1000,
-    }
+    MemoryAccessRegion::new(base_ipa, 0x1000, 1, 0)
 }
 
 // A page registered after two, the later of which came first.

@@ -2,6 +2,7 @@ use borrow.Author.Needs.{needs}
 use native.Mathlib.Omega.{arith}
 use mathlib.Core.Path.{sym}
 use Rattle.lent_words.specs.Words.{Lent}
+use Rattle.lent_policy.specs.Layout.{policySize}
 use Rattle.lent_policy.proofs.InPlace.{range-stored}
 use Rattle.lent_policy.proofs.add_range.Statement.{statement}
 use Rattle.lent_policy.proofs.add_range.Tie as tie
@@ -24,7 +25,7 @@ put-word-requires c κs = search needs
 returns : tie.Need-returns
 returns c =
     let a = c .before .before .before .before .before .before .before .before .before .args in
-    let lent : Lent 1680 (a .policy .now) = record { long = omega arith; bytes = c .before .before .before .before .before .before .are-bytes .ensures } in
+    let lent : Lent policySize (a .policy .now) = record { long = omega arith; bytes = c .before .before .before .before .before .before .are-bytes .ensures } in
     rw (c .put-word .ensures, c .before .before .put-range .ensures, c .before .before .before .before .get-allowed-count .ensures) (sym (range-stored (a .policy .now) _ (a .range) _ lent (omega arith)))
 
 pub add-range-spec : {M : Type 1} → statement M

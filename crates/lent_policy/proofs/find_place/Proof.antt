@@ -1,41 +1,46 @@
+-- The loop's invariant: the place is `place` places further than the first that fits among the regions not yet passed.
 use native.Mathlib.Omega.{arith}
-use borrow.Author.Needs.{needs}
 use Prim.Native.Nat.{_-_, min}
-use mathlib.Core.Path.{sym, _∙_, ap}
-use Rattle.lists.specs.Lists.{held, firstIndex}
+use Rattle.lists.specs.Lists.{firstIndex}
 use Rattle.lists.proofs.Laws.{IndexLeft, index-here, index-later, index-done}
 use Rattle.stage2_range.specs.Registry.{hasAddress}
+use Rattle.stage2_range.proofs.Ranges.{has-told}
 use Rattle.stage2.specs.Policy.{regionsHeld}
 use Rattle.lent_words.specs.Words.{wordAt, each}
-use Rattle.lent_policy.specs.Layout.{regionAt, policyAt}
-use Rattle.lent_policy.proofs.Records.{region-of}
+use Rattle.lent_policy.specs.Layout.{regionCountAt, regionAt, policyAt}
+use Rattle.lent_policy.proofs.Search.{region-read, index-begins}
 use Rattle.lent_policy.proofs.find_place.Statement.{statement}
 use Rattle.lent_policy.proofs.find_place.Tie as tie
 
 abbrev Inv-loop : tie.InvT-loop
-Inv-loop policy ipa held place₀ place = IndexLeft (hasAddress ipa) (each (regionAt policy) 0 16) (min (wordAt policy 209) 16) place (firstIndex (hasAddress ipa) (regionsHeld (policyAt policy)))
+Inv-loop policy ipa held place₀ place =
+    IndexLeft (hasAddress ipa) (each (regionAt policy) 0 16) (min (wordAt policy regionCountAt) 16) place
+    (firstIndex (hasAddress ipa) (regionsHeld (policyAt policy)))
 
 abbrev μ-loop : tie.MeasureT-loop
 μ-loop policy ipa held place₀ place = held - place
 
-get-region-count-requires : tie.Need-get-region-count-requires Inv-loop μ-loop
-get-region-count-requires c κs = search needs
-
-held-count-requires : tie.Need-held-count-requires Inv-loop μ-loop
-held-count-requires c κs = search needs
+regions-held-requires : tie.Need-regions-held-requires Inv-loop μ-loop
+regions-held-requires c κs = omega arith
 
 loop-holds : tie.Need-loop-holds Inv-loop μ-loop
-unfolding policyAt held
-loop-holds c = record { within = omega arith; left = omega arith }
+loop-holds c = index-begins _ _
 
-region-has-requires : tie.Need-region-has-requires Inv-loop μ-loop
-region-has-requires c κs = omega arith
+mul-has-byte : tie.Need-mul-has-byte Inv-loop μ-loop
+mul-has-byte c = omega arith
+
+add-has-byte : tie.Need-add-has-byte Inv-loop μ-loop
+add-has-byte c = omega arith
+
+has-byte-requires : tie.Need-has-byte-requires Inv-loop μ-loop
+has-byte-requires c κs = omega arith
 
 returns : tie.Need-returns Inv-loop μ-loop
-returns c = let a = c .before .before .before .before .before .before .args in
-    let n = c .before .before .before .loop .place in
-    let at = region-of (a .policy .now) n (regionAt (a .policy .now) 0) (omega arith) in
-    index-here (c .before .before .before .loop .inv) (omega arith) (omega arith) (regionAt (a .policy .now) 0) (ap (hasAddress (a .ipa)) at ∙ sym (c .before .region-has .ensures) ∙ c .if1 .taken)
+returns c =
+    let b = c .before .before .before .before .before .args .policy .now in
+    let l = c .before .before .before .loop in
+    index-here (l .inv) (omega arith) (omega arith) (regionAt b 0)
+    (has-told _ (c .before .has-byte .ensures) (region-read b (l .place) (omega arith) (regionAt b 0)) (c .if1 .taken))
 
 add-place : tie.Need-add-place Inv-loop μ-loop
 add-place c = omega arith
@@ -44,10 +49,11 @@ loop-less : tie.Need-loop-less Inv-loop μ-loop
 loop-less c = omega arith
 
 loop-again : tie.Need-loop-again Inv-loop μ-loop
-loop-again c = let a = c .before .before .before .before .before .before .args in
-    let n = c .before .before .before .loop .place in
-    let at = region-of (a .policy .now) n (regionAt (a .policy .now) 0) (omega arith) in
-    index-later (c .before .before .before .loop .inv) (omega arith) (omega arith) (regionAt (a .policy .now) 0) (ap (hasAddress (a .ipa)) at ∙ sym (c .before .region-has .ensures) ∙ c .if1 .left)
+loop-again c =
+    let b = c .before .before .before .before .before .args .policy .now in
+    let l = c .before .before .before .loop in
+    index-later (l .inv) (omega arith) (omega arith) (regionAt b 0)
+    (has-told _ (c .before .has-byte .ensures) (region-read b (l .place) (omega arith) (regionAt b 0)) (c .if1 .left))
 
 returns-2 : tie.Need-returns-2 Inv-loop μ-loop
 returns-2 c = index-done (c .before .loop .inv) (omega arith)
@@ -58,10 +64,11 @@ find-place-spec =
     (tie.spec
     Inv-loop
     μ-loop
-    get-region-count-requires
-    held-count-requires
+    regions-held-requires
     loop-holds
-    region-has-requires
+    mul-has-byte
+    add-has-byte
+    has-byte-requires
     returns
     add-place
     loop-less

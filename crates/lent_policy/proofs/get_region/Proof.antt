@@ -1,3 +1,4 @@
+-- A region is what the words of `regionAt` say: each word read is rewritten.
 use borrow.Author.Needs.{needs}
 use Rattle.lent_policy.specs.Layout.{regionAt}
 use Rattle.lent_policy.proofs.get_region.Statement.{statement}
@@ -15,8 +16,8 @@ add-get-word c = search needs
 get-word-requires : tie.Need-get-word-requires
 get-word-requires c κs = search needs
 
-memory-handler-requires : tie.Need-memory-handler-requires
-memory-handler-requires c κs = search needs
+from-number-requires : tie.Need-from-number-requires
+from-number-requires c κs = search needs
 
 add-get-word-2 : tie.Need-add-get-word-2
 add-get-word-2 c = search needs
@@ -24,8 +25,8 @@ add-get-word-2 c = search needs
 get-word-requires-2 : tie.Need-get-word-requires-2
 get-word-requires-2 c κs = search needs
 
-memory-handler-requires-2 : tie.Need-memory-handler-requires-2
-memory-handler-requires-2 c κs = search needs
+from-number-requires-2 : tie.Need-from-number-requires-2
+from-number-requires-2 c κs = search needs
 
 get-word-requires-3 : tie.Need-get-word-requires-3
 get-word-requires-3 c κs = search needs
@@ -48,9 +49,9 @@ returns c = rw (
   c .get-word5 .ensures,
   c .before .before .get-word4 .ensures,
   c .before .before .before .before .get-word3 .ensures,
-  c .before .before .before .before .before .before .memory-handler2 .ensures,
+  c .before .before .before .before .before .before .from-number2 .ensures,
   c .before .before .before .before .before .before .before .get-word2 .ensures,
-  c .before .before .before .before .before .before .before .before .before .memory-handler .ensures,
+  c .before .before .before .before .before .before .before .before .before .from-number .ensures,
   c .before .before .before .before .before .before .before .before .before .before .get-word .ensures,
 )
 
@@ -62,10 +63,10 @@ get-region-spec =
     add-at
     add-get-word
     get-word-requires
-    memory-handler-requires
+    from-number-requires
     add-get-word-2
     get-word-requires-2
-    memory-handler-requires-2
+    from-number-requires-2
     get-word-requires-3
     add-get-word-3
     get-word-requires-4

@@ -1,11 +1,13 @@
+-- Each answer is that of the first test met: what is known past the tests before it (`apart`, `room`) is rewritten in `handleAnswerFor`.
 use borrow.Author.Needs.{needs}
 use native.Mathlib.Omega.{arith}
 use borrow.Author.Tests.{le-leb, lt-leb}
-use mathlib.Core.Path.{_≡_, sym, _∙_}
+use mathlib.Core.Path.{_≡_}
 use mathlib.Core.Bool.{false}
 use lib.Dec.{leb}
-use Rattle.stage2_range.specs.Ranges.{overlapsAllowed}
-use Rattle.stage2_range.specs.Registry.{registerAnswer}
+use Rattle.stage2_range.specs.Ranges.{rangeBytes, overlapsAllowed}
+use Rattle.stage2_range.specs.Registry.{regionBytes, registerAnswer}
+use Rattle.stage2_range.proofs.Ranges.{overlaps-told}
 use Rattle.stage2.specs.Policy.{allowedHeld, handleAnswerFor}
 use Rattle.lent_policy.specs.Layout.{policyAt}
 use Rattle.lent_policy.proofs.States.{region-count}
@@ -14,21 +16,25 @@ use Rattle.lent_policy.proofs.handle_answer_for.Tie as tie
 
 -- past the first test no allowed range shares a byte, past the second there is room
 apart : (c : tie.Else1) →
-    let a = c .before .before .args in
-    overlapsAllowed (allowedHeld (policyAt (a .policy .now))) (a .region .«base_ipa») (a .region .«end_ipa») ≡ false
-apart c = sym (c .before .overlaps-allowed .ensures) ∙ c .if1 .left
+    let a = c .before .before .before .args in
+    overlapsAllowed (allowedHeld (policyAt (a .policy .now))) (regionBytes (a .region)) ≡ false
+apart c = overlaps-told rangeBytes _ _ (c .before .overlaps-allowed .ensures) (c .before .before .bytes .ensures) (c .if1 .left)
 
-room : (c : tie.Else2) → leb 16 (policyAt (c .before .before .before .before .args .policy .now) .«region_count») ≡ false
+room : (c : tie.Else2) → leb 16 (policyAt (c .before .before .before .before .before .args .policy .now) .«region_count») ≡ false
 room c =
-    let b = c .before .before .before .before .args .policy .now in
+    let b = c .before .before .before .before .before .args .policy .now in
     lt-leb 16 (policyAt b .«region_count») (omega (arith, c .if2 .left, c .before .get-region-count .ensures, region-count b))
+
+bytes-requires : tie.Need-bytes-requires
+bytes-requires c κs = search needs
 
 overlaps-allowed-requires : tie.Need-overlaps-allowed-requires
 overlaps-allowed-requires c κs = search needs
 
 returns : tie.Need-returns
 unfolding handleAnswerFor
-returns c = rw (sym (c .before .overlaps-allowed .ensures) ∙ c .if1 .taken)
+returns c =
+    rw (overlaps-told rangeBytes _ _ (c .before .overlaps-allowed .ensures) (c .before .before .bytes .ensures) (c .if1 .taken))
 
 get-region-count-requires : tie.Need-get-region-count-requires
 get-region-count-requires c κs = search needs
@@ -36,7 +42,7 @@ get-region-count-requires c κs = search needs
 returns-2 : tie.Need-returns-2
 unfolding handleAnswerFor registerAnswer
 returns-2 c =
-    let b = c .before .before .before .before .args .policy .now in
+    let b = c .before .before .before .before .before .args .policy .now in
     rw (apart (c .before .before), le-leb 16 (policyAt b .«region_count») (omega (arith, c .if2 .taken, c .before .get-region-count .ensures, region-count b)))
 
 overlaps-regions-requires : tie.Need-overlaps-regions-requires
@@ -44,16 +50,27 @@ overlaps-regions-requires c κs = search needs
 
 returns-3 : tie.Need-returns-3
 unfolding handleAnswerFor registerAnswer
-returns-3 c = rw (apart (c .before .before .before .before), room (c .before .before), sym (c .before .overlaps-regions .ensures) ∙ c .if3 .taken)
+returns-3 c =
+    rw (
+      apart (c .before .before .before .before),
+      room (c .before .before),
+      overlaps-told regionBytes _ _ (c .before .overlaps-regions .ensures) (c .before .before .before .before .before .before .bytes .ensures) (c .if3 .taken),
+    )
 
 returns-4 : tie.Need-returns-4
 unfolding handleAnswerFor registerAnswer
-returns-4 c = rw (apart (c .before .before .before .before), room (c .before .before), sym (c .before .overlaps-regions .ensures) ∙ c .if3 .left)
+returns-4 c =
+    rw (
+      apart (c .before .before .before .before),
+      room (c .before .before),
+      overlaps-told regionBytes _ _ (c .before .overlaps-regions .ensures) (c .before .before .before .before .before .before .bytes .ensures) (c .if3 .left),
+    )
 
 pub handle-answer-for-spec : {M : Type 1} → statement M
 handle-answer-for-spec =
     tie.close
     (tie.spec
+    bytes-requires
     overlaps-allowed-requires
     returns
     get-region-count-requires

@@ -1,7 +1,7 @@
 use borrow.Author.Needs.{needs}
 use native.Mathlib.Omega.{arith}
 use Rattle.lent_policy.specs.Layout.{withRegions}
-use Rattle.lent_policy.proofs.Find.{place-within, inserted-there}
+use Rattle.lent_policy.proofs.Search.{place-within, inserted-there}
 use Rattle.lent_policy.proofs.insert_region.Statement.{statement}
 use Rattle.lent_policy.proofs.insert_region.Tie as tie
 

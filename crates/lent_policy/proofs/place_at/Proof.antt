@@ -1,8 +1,9 @@
+-- The loop's invariant: the regions from `place` up to `n` stand one place further (`shifted`).
 use native.Mathlib.Omega.{arith}
 use Prim.Native.Nat.{_≤_, _-_}
 use mathlib.Core.Path.{_≡_, sym}
 use Rattle.lent_words.specs.Words.{Lent}
-use Rattle.lent_policy.specs.Layout.{regionAt, withRegion}
+use Rattle.lent_policy.specs.Layout.{policySize, regionAt, withRegion}
 use Rattle.lent_policy.proofs.Records.{region-beside}
 use Rattle.lent_policy.proofs.InPlace.{region-lent, region-rewritten, region-comm}
 use Rattle.lent_policy.proofs.Insertion.{shifted, shift-none, shift-step, shift-done}
@@ -21,7 +22,7 @@ are-bytes-requires c κs = omega arith
 loop-holds : tie.Need-loop-holds Inv-loop μ-loop
 loop-holds c =
     let a = c .before .before .before .args in
-    (omega arith, omega arith, sym (shift-none regionAt withRegion (Lent 1680) region-lent region-rewritten region-beside region-comm (a .n) (a .policy .now)))
+    (omega arith, omega arith, sym (shift-none regionAt withRegion (Lent policySize) region-lent region-rewritten region-beside region-comm (a .n) (a .policy .now)))
 
 sub-get-region : tie.Need-sub-get-region Inv-loop μ-loop
 sub-get-region c = omega arith
@@ -44,7 +45,7 @@ loop-again c =
     let l = c .before .before .before .before .before .loop in (
       omega arith,
       omega arith,
-      rw (c .put-region .ensures, c .before .before .get-region .ensures, l .inv .2) (shift-step regionAt withRegion (Lent 1680) region-lent region-rewritten region-beside region-comm (a .n) (a .policy .now) (l .place) (omega arith) (omega arith)),
+      rw (c .put-region .ensures, c .before .before .get-region .ensures, l .inv .2) (shift-step regionAt withRegion (Lent policySize) region-lent region-rewritten region-beside region-comm (a .n) (a .policy .now) (l .place) (omega arith) (omega arith)),
     )
 
 put-region-requires-2 : tie.Need-put-region-requires-2 Inv-loop μ-loop
@@ -55,8 +56,8 @@ returns c =
     let a = c .before .before .before .before .before .before .before .args in
     let l = c .before .before .before .loop in
     let e : l .place ≡ a .at = omega arith in
-    let lent : Lent 1680 (a .policy .now) = record { long = omega arith; bytes = c .before .before .before .before .are-bytes .ensures } in
-    rw (c .put-region2 .ensures, l .inv .2, e) (shift-done regionAt withRegion (Lent 1680) region-lent region-rewritten region-beside region-comm (a .n) (a .policy .now) 16 (a .at) (a .region) (omega arith) (omega arith) lent)
+    let lent : Lent policySize (a .policy .now) = record { long = omega arith; bytes = c .before .before .before .before .are-bytes .ensures } in
+    rw (c .put-region2 .ensures, l .inv .2, e) (shift-done regionAt withRegion (Lent policySize) region-lent region-rewritten region-beside region-comm (a .n) (a .policy .now) 16 (a .at) (a .region) (omega arith) (omega arith) lent)
 
 pub place-at-spec : {M : Type 1} → statement M
 place-at-spec =

@@ -1,21 +1,27 @@
+-- Each answer is that of the first test met: what is known past the tests before it (`room`, `apart`) is rewritten in `allowAnswerFor`.
 use borrow.Author.Tests.{le-leb, lt-leb}
-use mathlib.Core.Path.{_≡_, sym, _∙_}
+use mathlib.Core.Path.{_≡_}
 use mathlib.Core.Bool.{false}
 use lib.Dec.{leb}
-use Rattle.stage2_range.specs.Ranges.{overlapsAllowed}
+use Rattle.stage2_range.specs.Ranges.{rangeBytes, overlapsAllowed}
+use Rattle.stage2_range.specs.Registry.{regionBytes}
+use Rattle.stage2_range.proofs.Ranges.{overlaps-told}
 use Rattle.stage2.specs.Policy.{allowedHeld, allowAnswerFor, addAllowed}
 use borrow.Author.Needs.{needs}
 use Rattle.stage2.proofs.allow_valid.Statement.{statement}
 use Rattle.stage2.proofs.allow_valid.Tie as tie
 
 -- past the first test there is room, past the second no allowed range shares a byte
-room : (c : tie.Else1) → leb 32 (c .before .before .before .args .policy .«allowed_count») ≡ false
+room : (c : tie.Else1) → leb 32 (c .before .before .before .before .args .policy .«allowed_count») ≡ false
 room c = lt-leb _ _ (c .if1 .left)
 
 apart : (c : tie.Else2) →
-    let a = c .before .before .before .before .before .args in
-    overlapsAllowed (allowedHeld (a .policy)) (a .range .«base_ipa») (a .range .«end_ipa») ≡ false
-apart c = sym (c .before .overlaps-allowed .ensures) ∙ c .if2 .left
+    let a = c .before .before .before .before .before .before .args in
+    overlapsAllowed (allowedHeld (a .policy)) (rangeBytes (a .range)) ≡ false
+apart c = overlaps-told rangeBytes _ _ (c .before .overlaps-allowed .ensures) (c .before .before .before .bytes .ensures) (c .if2 .left)
+
+bytes-requires : tie.Need-bytes-requires
+bytes-requires c κs = search needs
 
 refuse-requires : tie.Need-refuse-requires
 refuse-requires c κs = search needs
@@ -36,7 +42,7 @@ returns-2 c =
     rw (
       c .refuse2 .ensures,
       room (c .before .before .before),
-      sym (c .before .before .overlaps-allowed .ensures) ∙ c .before .if2 .taken,
+      overlaps-told rangeBytes _ _ (c .before .before .overlaps-allowed .ensures) (c .before .before .before .before .bytes .ensures) (c .before .if2 .taken),
     )
 
 overlaps-regions-requires : tie.Need-overlaps-regions-requires
@@ -52,7 +58,7 @@ returns-3 c =
       c .refuse3 .ensures,
       room (c .before .before .before .before .before),
       apart (c .before .before .before),
-      sym (c .before .before .overlaps-regions .ensures) ∙ c .before .if3 .taken,
+      overlaps-told regionBytes _ _ (c .before .before .overlaps-regions .ensures) (c .before .before .before .before .before .before .bytes .ensures) (c .before .if3 .taken),
     )
 
 mul-range : tie.Need-mul-range
@@ -70,13 +76,14 @@ returns-4 c =
     rw (
       room (c .before .before .before .before),
       apart (c .before .before),
-      sym (c .before .overlaps-regions .ensures) ∙ c .if3 .left,
+      overlaps-told regionBytes _ _ (c .before .overlaps-regions .ensures) (c .before .before .before .before .before .bytes .ensures) (c .if3 .left),
     )
 
 pub allow-valid-spec : {M : Type 1} → statement M
 allow-valid-spec =
     tie.close
     (tie.spec
+    bytes-requires
     refuse-requires
     returns
     overlaps-allowed-requires

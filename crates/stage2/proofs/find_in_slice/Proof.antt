@@ -58,13 +58,12 @@ use Rattle.memory_access.proofs.Ipa.Laws as I′
 use Rattle.stage2_range.specs.declared.MemoryAccessRegion.{MemoryAccessRegion}
 use Rattle.stage2_range.specs.declared.RegionFound.{RegionFound}
 use Rattle.stage2_range.specs.declared.RegionFound.the-variants.{Nothing, Match}
-use Rattle.stage2_range.specs.Registry.{findRegion}
+use Rattle.stage2_range.specs.Registry.{regionOf, findRegion}
 use Rattle.stage2_range.proofs.MemoryAccessRegion as T
 use Rattle.stage2_range.proofs.MemoryAccessRegion.Laws as T′
 use Rattle.stage2_range.proofs.RegionFound as F
 use Rattle.stage2_range.proofs.RegionFound.Laws as F′
 use Rattle.stage2_range.proofs.Registry.{orElse, find-first}
-use Rattle.stage2.specs.Policy.{regionOf}
 use Rattle.stage2.proofs.Values.{ipa-val, region-val, found-val, ipa-typed, region-typed, found-typed}
 use Rattle.stage2.proofs.find_here as one
 use Rattle.stage2.proofs.find_here.Symbol.{name as #find-here}

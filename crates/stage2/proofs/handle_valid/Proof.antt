@@ -1,7 +1,9 @@
-use Rattle.stage2_range.specs.Registry.{registerAnswer, registeredBy, registerRegion}
-use mathlib.Core.Path.{_≡_, refl, sym, _∙_}
+-- Past the test of the allowed ranges (`apart`) the registry answers, and what it hands back is what is built (`registered-built`).
+use Rattle.stage2_range.specs.Registry.{regionBytes, registerAnswer, registeredBy, registerRegion}
+use mathlib.Core.Path.{_≡_, refl}
 use mathlib.Core.Bool.{false}
-use Rattle.stage2_range.specs.Ranges.{overlapsAllowed}
+use Rattle.stage2_range.specs.Ranges.{rangeBytes, overlapsAllowed}
+use Rattle.stage2_range.proofs.Ranges.{overlaps-told}
 use Rattle.stage2_range.specs.declared.Stage2Result.{Stage2Result}
 use Rattle.stage2_range.specs.declared.Stage2Result.the-variants.{Accepted, Refused}
 use Rattle.stage2_range.specs.declared.MemoryAccessRegion.{MemoryAccessRegion}
@@ -32,9 +34,12 @@ registered-built (Refused error) p r = refl
 
 -- past the test no allowed range shares a byte
 apart : (c : tie.Else1) →
-    let a = c .before .before .before .before .args in
-    overlapsAllowed (allowedHeld (a .policy)) (a .region .«base_ipa») (a .region .«end_ipa») ≡ false
-apart c = sym (c .before .overlaps-allowed .ensures) ∙ c .if1 .left
+    let a = c .before .before .before .before .before .args in
+    overlapsAllowed (allowedHeld (a .policy)) (regionBytes (a .region)) ≡ false
+apart c = overlaps-told rangeBytes _ _ (c .before .overlaps-allowed .ensures) (c .before .before .bytes .ensures) (c .if1 .left)
+
+bytes-requires : tie.Need-bytes-requires
+bytes-requires c κs = search needs
 
 overlaps-allowed-requires : tie.Need-overlaps-allowed-requires
 overlaps-allowed-requires c κs = search needs
@@ -44,7 +49,11 @@ refuse-requires c κs = search needs
 
 returns : tie.Need-returns
 unfolding handleAnswerFor
-returns c = rw (c .refuse .ensures, sym (c .before .before .overlaps-allowed .ensures) ∙ c .before .if1 .taken)
+returns c =
+    rw (
+      c .refuse .ensures,
+      overlaps-told rangeBytes _ _ (c .before .before .overlaps-allowed .ensures) (c .before .before .before .bytes .ensures) (c .before .if1 .taken),
+    )
 
 register-requires : tie.Need-register-requires
 register-requires c κs = search needs
@@ -52,11 +61,11 @@ register-requires c κs = search needs
 returns-2 : tie.Need-returns-2
 unfolding handleAnswerFor registerRegion
 returns-2 c =
-    let a = c .before .before .before .before .before .before .args in
+    let a = c .before .before .before .before .before .before .before .args in
     rw (c .before .register .ensures, apart (c .before .before))
     (registered-built (registerAnswer (a .policy .regions) (a .policy .«region_count») (a .region)) (a .policy) (a .region))
 
 pub handle-valid-spec : {M : Type 1} → statement M
 handle-valid-spec =
     tie.close
-    (tie.spec overlaps-allowed-requires refuse-requires returns register-requires returns-2)
+    (tie.spec bytes-requires overlaps-allowed-requires refuse-requires returns register-requires returns-2)

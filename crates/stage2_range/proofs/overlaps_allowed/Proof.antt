@@ -1,41 +1,43 @@
 -- The loop's invariant: whether a range overlaps is decided by the ranges not yet passed.
 use Prim.Native.Nat.{_-_, min}
-use mathlib.Core.Path.{refl, sym, _∙_}
-use mathlib.Core.Bool.{true, false}
 use native.Mathlib.Omega.{arith}
 use borrow.Author.Needs.{needs}
 use Rattle.lists.specs.Lists.{held}
-use Rattle.lists.proofs.Laws.{FirstLeft, first-here, first-later, first-done}
-use Rattle.stage2_range.specs.Ranges.{sharesByte, overlapsAllowed}
+use Rattle.lists.proofs.Laws.{first-done}
+use Rattle.stage2_range.specs.Ranges.{rangeBytes, overlapsAllowed}
+use Rattle.stage2_range.proofs.Ranges.{OverlapLeft, overlap-begins, overlap-here, overlap-later}
 use Rattle.stage2_range.proofs.overlaps_allowed.Statement.{statement}
 use Rattle.stage2_range.proofs.overlaps_allowed.Tie as tie
 
 abbrev Inv-loop : tie.InvT-loop
-Inv-loop allowed-count base-ipa end-ipa ranges n i₀ i =
-    FirstLeft (λ r. sharesByte (r .«base_ipa») (r .«end_ipa») base-ipa end-ipa) (λ r. true) false ranges (min allowed-count 32) i (overlapsAllowed (held 32 allowed-count ranges) base-ipa end-ipa)
+Inv-loop allowed-count bytes ranges n i₀ i =
+    OverlapLeft rangeBytes bytes ranges (min allowed-count 32) i (overlapsAllowed (held 32 allowed-count ranges) bytes)
 
 abbrev μ-loop : tie.MeasureT-loop
-μ-loop allowed-count base-ipa end-ipa ranges n i₀ i = n - i
+μ-loop allowed-count bytes ranges n i₀ i = n - i
 
 held-count-requires : tie.Need-held-count-requires Inv-loop μ-loop
 held-count-requires c κs = search needs
 
 loop-holds : tie.Need-loop-holds Inv-loop μ-loop
-unfolding overlapsAllowed held
-loop-holds c = record { within = omega arith; left = refl }
+loop-holds c = overlap-begins rangeBytes _ 32 _ _
 
-mul-r : tie.Need-mul-r Inv-loop μ-loop
-mul-r c = omega arith
+mul-range : tie.Need-mul-range Inv-loop μ-loop
+mul-range c = omega arith
 
-array-copy-out-r : tie.Need-array-copy-out-r Inv-loop μ-loop
-array-copy-out-r c = omega arith
+array-copy-out-range : tie.Need-array-copy-out-range Inv-loop μ-loop
+array-copy-out-range c = omega arith
+
+bytes-requires : tie.Need-bytes-requires Inv-loop μ-loop
+bytes-requires c κs = search needs
 
 page-ranges-overlap-requires : tie.Need-page-ranges-overlap-requires Inv-loop μ-loop
 page-ranges-overlap-requires c κs = search needs
 
 returns : tie.Need-returns Inv-loop μ-loop
 returns c =
-    first-here (c .before .before .before .before .loop .inv) (omega arith) (omega arith) _ (sym (c .before .page-ranges-overlap .ensures) ∙ c .if1 .taken)
+    overlap-here rangeBytes _ (c .before .before .before .before .before .loop .inv) (omega arith) (omega arith) _
+    (c .before .page-ranges-overlap .ensures) (c .before .before .bytes .ensures) (c .if1 .taken)
 
 add-i : tie.Need-add-i Inv-loop μ-loop
 add-i c = omega arith
@@ -45,7 +47,8 @@ loop-less c = omega arith
 
 loop-again : tie.Need-loop-again Inv-loop μ-loop
 loop-again c =
-    first-later (c .before .before .before .before .loop .inv) (omega arith) (omega arith) _ (sym (c .before .page-ranges-overlap .ensures) ∙ c .if1 .left)
+    overlap-later rangeBytes _ (c .before .before .before .before .before .loop .inv) (omega arith) (omega arith) _
+    (c .before .page-ranges-overlap .ensures) (c .before .before .bytes .ensures) (c .if1 .left)
 
 returns-2 : tie.Need-returns-2 Inv-loop μ-loop
 returns-2 c = first-done (c .before .loop .inv) (omega arith)
@@ -58,8 +61,9 @@ overlaps-allowed-spec =
     μ-loop
     held-count-requires
     loop-holds
-    mul-r
-    array-copy-out-r
+    mul-range
+    array-copy-out-range
+    bytes-requires
     page-ranges-overlap-requires
     returns
     add-i

@@ -16,7 +16,7 @@ returns c =
     rw (
       c .held-count .ensures,
       c .before .position .ensures,
-      overlaps-at (a .regions) (a .region-count) (omega arith) (a .base-ipa) (a .end-ipa),
+      overlaps-at (a .regions) (a .region-count) (omega arith) (a .bytes),
     )
 
 pub overlaps-regions-spec : {M : Type 1} → statement M

@@ -16,6 +16,9 @@ mul-range c = search needs
 element-copy-out-range : tie.Need-element-copy-out-range
 element-copy-out-range c = search needs
 
+words-requires : tie.Need-words-requires
+words-requires c κs = search needs
+
 slice-aggregate-expect-all : tie.Need-slice-aggregate-expect-all
 slice-aggregate-expect-all c = search needs
 
@@ -23,7 +26,12 @@ expect-all-requires : tie.Need-expect-all-requires
 expect-all-requires c κs = search needs
 
 returns-2 : tie.Need-returns-2
-returns-2 c = rw (c .expect-all .ensures, lt-ltb (c .before .before .before .before .args .place) 32 (omega arith))
+returns-2 c =
+    rw (
+      c .expect-all .ensures,
+      c .before .before .words .ensures,
+      lt-ltb (c .before .before .before .before .before .args .place) 32 (omega arith),
+    )
 
 pub allowed-at-spec : {M : Type 1} → statement M
 allowed-at-spec =
@@ -33,6 +41,7 @@ allowed-at-spec =
     returns
     mul-range
     element-copy-out-range
+    words-requires
     slice-aggregate-expect-all
     expect-all-requires
     returns-2)

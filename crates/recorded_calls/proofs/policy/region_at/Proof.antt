@@ -16,11 +16,8 @@ mul-region c = search needs
 element-copy-out-region : tie.Need-element-copy-out-region
 element-copy-out-region c = search needs
 
-handler-number-requires : tie.Need-handler-number-requires
-handler-number-requires c κs = search needs
-
-handler-number-requires-2 : tie.Need-handler-number-requires-2
-handler-number-requires-2 c κs = search needs
+words-requires : tie.Need-words-requires
+words-requires c κs = search needs
 
 slice-aggregate-expect-all : tie.Need-slice-aggregate-expect-all
 slice-aggregate-expect-all c = search needs
@@ -32,9 +29,8 @@ returns-2 : tie.Need-returns-2
 returns-2 c =
     rw (
       c .expect-all .ensures,
-      c .before .before .handler-number2 .ensures,
-      c .before .before .before .handler-number .ensures,
-      lt-ltb (c .before .before .before .before .before .before .before .args .place) 16 (omega arith),
+      c .before .before .words .ensures,
+      lt-ltb (c .before .before .before .before .before .args .place) 16 (omega arith),
     )
 
 pub region-at-spec : {M : Type 1} → statement M
@@ -45,8 +41,7 @@ region-at-spec =
     returns
     mul-region
     element-copy-out-region
-    handler-number-requires
-    handler-number-requires-2
+    words-requires
     slice-aggregate-expect-all
     expect-all-requires
     returns-2)

@@ -1,6 +1,3 @@
-use native.Mathlib.Omega.{arith}
-use mathlib.Core.Path.{sym, _∙_}
-use Rattle.stage2_range.proofs.Ranges.{accepted-valid}
 use Rattle.stage2.specs.Policy.{allowRange}
 use borrow.Author.Needs.{needs}
 use Rattle.stage2.proofs.Policy.allow_range.Statement.{statement}
@@ -18,10 +15,8 @@ refuse-requires c κs = search needs
 enum-told : tie.Need-enum-told
 enum-told c = search needs
 
-add-t9 : tie.Need-add-t9
-add-t9 c =
-    let a = c .before .before .before .args in
-    omega (arith, accepted-valid (a .base-ipa) (a .size) (sym (c .before .before .validate-range .ensures) ∙ c .enum-told .given .1) .ends)
+new-requires : tie.Need-new-requires
+new-requires c κs = search needs
 
 allow-valid-requires : tie.Need-allow-valid-requires
 allow-valid-requires c κs = search needs
@@ -32,7 +27,13 @@ returns c = rw (c .refuse .ensures, ← c .before .before .before .before .valid
 
 returns-2 : tie.Need-returns-2
 unfolding allowRange
-returns-2 c = rw (c .allow-valid .ensures, ← c .before .before .before .validate-range .ensures, c .before .enum-told .given .1)
+returns-2 c =
+    rw (
+      c .allow-valid .ensures,
+      c .before .new .ensures,
+      ← c .before .before .before .before .validate-range .ensures,
+      c .before .before .enum-told .given .1,
+    )
 
 pub allow-range-spec : {M : Type 1} → statement M
 allow-range-spec =
@@ -42,7 +43,7 @@ allow-range-spec =
     enum-known-error
     refuse-requires
     enum-told
-    add-t9
+    new-requires
     allow-valid-requires
     returns
     returns-2)

@@ -1,2 +1,0 @@
--- Laws of `ritm`.
-pub mod Find
