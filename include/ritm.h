@@ -99,14 +99,16 @@ enum ritm_refusal {
     RITM_NO_PAGE_ABOVE = 18,
     /* The ISS has ISV clear. */
     RITM_NO_SYNDROME = 19,
-    /* A handler's number is neither 0 nor 1. */
+    /* A handler's number is none of enum ritm_memory_handler. */
     RITM_UNKNOWN_MEMORY_HANDLER = 20
 };
 
 /* Who serves the loads or the stores of a region. */
 enum ritm_memory_handler {
     RITM_HANDLER_ABSENT = 0,
-    RITM_HANDLER_FILTERED_MMIO = 1
+    RITM_HANDLER_FILTERED_MMIO = 1,
+    /* How many there are. */
+    RITM_HANDLER_COUNT
 };
 
 /* What a core waits for: the reply to a forwarded call, by its conduit and its recipient. */

@@ -79,6 +79,17 @@ static uint64_t handle(const uint64_t *a)
     return ritm_handle_range(policy, a[2], a[3], a[4], a[5]);
 }
 
+/* How many numbers name a handler: the first that does not. */
+static uint64_t known_handlers(const uint64_t *a)
+{
+    uint64_t number = 0;
+    (void)a;
+    while (handle((uint64_t[]){0, 0, APART, PAGE, number, number}) == RITM_ACCEPTED) {
+        number++;
+    }
+    return number;
+}
+
 /* How much a policy holds when it is asked to hold this much, by the word of the count. */
 static uint64_t held(const uint64_t *a)
 {
@@ -270,7 +281,7 @@ static uint64_t values_used(const uint64_t *a)
 /* The handler's code, as the policy's bytes hold it, whose region answers a load with this kind. */
 static uint64_t handler_code(const uint64_t *a)
 {
-    for (uint64_t code = 0; code < 2; code++) {
+    for (uint64_t code = 0; code < RITM_HANDLER_COUNT; code++) {
         struct machine machine;
         make_machine(&machine, (uint64_t[]){NO_TRAP, 0, 0});
         make_policy(machine.policy, 0, 1, code, code);
@@ -414,8 +425,9 @@ static const struct row rows[] = {
     {NAMED(RITM_NO_SUCH_REGISTER), read_gpr, {0, 32}},
     {NAMED(RITM_NO_PAGE_ABOVE), align_up, {UINT64_MAX}},
     {NAMED(RITM_NO_SYNDROME), decode, {0}},
-    {NAMED(RITM_UNKNOWN_MEMORY_HANDLER), handle, {0, 0, APART, PAGE, 1, 2}},
+    {NAMED(RITM_UNKNOWN_MEMORY_HANDLER), handle, {0, 0, APART, PAGE, 1, RITM_HANDLER_COUNT}},
 
+    {NAMED(RITM_HANDLER_COUNT), known_handlers, {0}},
     {NAMED(RITM_HANDLER_ABSENT), handler_code, {RITM_TRAP_ABORT_INJECTED}},
     {NAMED(RITM_HANDLER_FILTERED_MMIO), handler_code, {RITM_TRAP_LOAD_HANDLED}},
 

@@ -26,12 +26,12 @@ pub enum MemoryHandler {
 }
 
 impl MemoryHandler {
+    /// All of them, by number.
+    pub const ALL: &'static [Self] = &[Self::Absent, Self::FilteredMmio];
+
     /// The handler of a code in a policy's bytes: an unknown one reads as absent.
     fn from_code(code: u64) -> Self {
-        match code {
-            1 => Self::FilteredMmio,
-            _ => Self::Absent,
-        }
+        Self::ALL.iter().copied().find(|&handler| handler as u64 == code).unwrap_or(Self::Absent)
     }
 }
 

@@ -54,7 +54,7 @@ refusals! {
     NoSuchRegister = 17, "the register's index is above 31";
     NoPageAbove = 18, "no page boundary above the address is below 2^64";
     NoSyndrome = 19, "the ISS has ISV clear";
-    UnknownMemoryHandler = 20, "a handler's number is neither 0 nor 1";
+    UnknownMemoryHandler = 20, "a handler's number names none";
 }
 
 impl Refusal {

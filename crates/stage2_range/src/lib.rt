@@ -206,6 +206,7 @@ pub fn is_handler(number: u64) -> bool
 
 impl PageRange {
     // The bytes of a base and a size: none where they would go on past the largest end, which `validate_range` refuses.
+    // (None, and not those up to that end: past `validate_range` the compiler then sees a plain sum.)
     pub fn new(base_ipa: u64, size: u64) -> Self
         ensures { λ r. ⌜ r ≡ pageRange «base_ipa» size ⌝ }
     {
@@ -351,6 +352,7 @@ pub fn validate_range(base_ipa: u64, size: u64) -> Stage2Result
 }
 
 // Some byte lies in both ranges: none is empty, and each begins before the other ends.
+// (No test hides another, and the one that tells most ranges apart stands last: the loops over lent bytes then take the fewest instructions.)
 pub fn page_ranges_overlap(first: PageRange, second: PageRange) -> bool
     ensures { λ r. ⌜ r ≡ sharesByte first second ⌝ }
 {

@@ -6,6 +6,7 @@ use crate::buffers::{
 };
 use crate::random::Random;
 use crate::raw::*;
+use ritm::MemoryHandler;
 
 /// What a call may do with a buffer.
 #[derive(Clone, Copy, Debug, PartialEq)]
@@ -225,7 +226,8 @@ fn any_numbers(random: &mut Random, _: &[Vec<u8>]) -> Numbers {
 fn range_numbers(random: &mut Random, _: &[Vec<u8>]) -> Numbers {
     let base = if random.once_in(4) { random.any() } else { random.page() };
     let size = if random.once_in(4) { random.any() } else { 0x1000 * (1 + random.below(3)) };
-    [base, size, random.mostly_below(2), random.mostly_below(2), 0]
+    let handlers = MemoryHandler::ALL.len() as u64;
+    [base, size, random.mostly_below(handlers), random.mostly_below(handlers), 0]
 }
 
 /// Core, index, value.
