@@ -4,13 +4,14 @@ use lib.IntN.{ℤ}
 use mathlib.Core.List.{List, [], _∷_, map}
 use Rattle.lent_words.specs.Words.{wordAt, wordsAt, FitsWord, Bytes, Lent}
 use Rattle.stage2.specs.Builds.{allow, handle}
+use Rattle.stage2.specs.Changes.{builder}
 use Rattle.data_abort.specs.declared.TrapRegisters.{TrapRegisters}
 use Rattle.hvc_response.specs.Response.{signedWord}
 use Rattle.lent_policy.specs.Layout.{policyAt, policySize}
 use Rattle.lent_cores.specs.Layout.{coresAt, counterAt, elrWord, spsrWord, coresSize}
 use Rattle.lent_map.specs.Layout.{mapAt, mapSize}
 use Rattle.ritm.specs.Interface.{Left, allowCall, handleCall, saveCall, trapCall, replyCall, writeCall, insertCall, getCall, removeCall}
-use Rattle.order_independence.specs.Calls.{State, HostCall, build, core-call, save, trap, reply, write-gpr, by-value, insert, get, remove}
+use Rattle.order_independence.specs.Calls.{State, HostCall, change, core-call, save, trap, reply, write-gpr, by-value, insert, get, remove}
 use Rattle.lent_reply.specs.LentReply.{replyIn}
 
 -- the bytes that a host lends
@@ -76,8 +77,8 @@ afterAll b (e ∷ es) = afterAll (afterCall b e) es
 
 -- the host's call that it is, on states: `order_independence` has its meaning
 abbrev pub hostCall : Entry → HostCall
-hostCall (ritm-allow-range base size attributes) = build (allow base size attributes)
-hostCall (ritm-handle-range base size read write) = build (handle base size read write)
+hostCall (ritm-allow-range base size attributes) = change (builder (allow base size attributes))
+hostCall (ritm-handle-range base size read write) = change (builder (handle base size read write))
 hostCall (ritm-save core registers) = core-call (save core (wordsAt registers 0 31) (wordAt registers elrWord) (wordAt registers spsrWord))
 hostCall (ritm-trap core registers) = core-call (trap core registers)
 hostCall (ritm-reply core kind values error) = core-call (reply core (replyIn kind values error))

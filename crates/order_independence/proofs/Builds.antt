@@ -1,88 +1,90 @@
--- The calls that a list accepts may be made in any order. Assumes nothing.
+-- The calls that a list accepts may be made in any order: a call is accepted exactly where it fits what is held, two calls that fit one after
+-- the other fit the other way round, and so, by induction over the permutation, do all. Assumes nothing.
 use Prim.Native.Nat.{ℕ, _<_}
 use mathlib.Core.Path.{_≡_, refl, sym, _∙_, ap, subst, subst₂}
 use mathlib.Core.Bool.{Bool, true, false, _&&_, cond}
-use mathlib.Core.List.{List, [], _∷_, List·Memᴰ, List·Permᴰ, List·Permᴰ·nil, List·Permᴰ·cons, List·Permᴰ·swap, List·Permᴰ·trans, Permᴰ·symm}
+use mathlib.Core.List.{List, [], _∷_, _++_, List·Memᴰ, List·Permᴰ, List·Permᴰ·nil, List·Permᴰ·cons, List·Permᴰ·swap, List·Permᴰ·trans, Permᴰ·symm}
 use native.Mathlib.Omega.{arith}
 use borrow.Author.Tests.{eqb-true, eqb-false}
 use lib.Dec.{leb}
 use lib.ListN.{length}
 use Rattle.lists.specs.Sorting.{insertBy, sortBy}
-use Rattle.lists.proofs.Laws.{length-held, length-insert, insert-end, inserted-all}
+use Rattle.lists.proofs.Laws.{length-insert, insert-end, inserted-all}
 use Rattle.lists.proofs.Sorting.{perm-member, insertion-all, insert-comm, sort-append, sort-perm, sort-length}
-use Rattle.stage2_range.specs.declared.Stage2Result.{Stage2Result}
-use Rattle.stage2_range.specs.declared.Stage2Result.the-variants.{Accepted, Refused}
+use Rattle.stage2_range.specs.declared.Stage2Result.the-variants.{Accepted}
 use Rattle.stage2_range.specs.declared.PageRange.{PageRange}
 use Rattle.stage2_range.specs.declared.Stage2Range.{Stage2Range}
 use Rattle.stage2_range.specs.declared.MemoryAccessRegion.{MemoryAccessRegion}
-use Rattle.stage2_range.specs.Ranges.{ValidRange, pageRange, sharesByte, rangeOf, rangeBytes, resultNumber}
+use Rattle.stage2_range.specs.Ranges.{ValidRange, pageRange, sharesByte, rangeOf, rangeBytes}
 use Rattle.stage2_range.specs.Handlers.{isHandler}
 use Rattle.stage2_range.specs.Registry.{regionOf, regionBytes}
 use Rattle.stage2_range.proofs.Ranges.{shares-sym, apart-bases, base-byte}
 use Rattle.stage2.specs.declared.Policy.{Policy}
-use Rattle.stage2.specs.Policy.{allowedHeld, regionsHeld, addAllowed, addRegion}
+use Rattle.stage2.specs.declared.Built.{Built}
+use Rattle.stage2.specs.Policy.{allowedHeld, regionsHeld}
 use Rattle.stage2.specs.Builds.{BuilderCall, allow, handle, build, buildAll, Apart, CanAllow, CanHandle, WellFormed}
 use Rattle.order_independence.specs.Builds.{accepts, accepted, AllAccepted, SamePolicy}
-use Rattle.stage2.proofs.Laws.{error-not-zero, build-refused, allow-accepted, can-allow, handle-accepted, can-handle}
-use Rattle.stage2.proofs.WellFormed.{allowed-held, regions-held, build-keeps}
+use Rattle.stage2.proofs.Laws.{zero-accepted, build-refused, allow-accepted, can-allow, handle-accepted, can-handle}
+use Rattle.stage2.proofs.WellFormed.{build-keeps}
+use Rattle.stage2.proofs.Held.{allowed-length, regions-length, allow-holds, handle-holds}
 
 -- what equal policies have in common: the allowed ranges sorted by base, and the regions
-record View : Type 0 where
-  allowed : List Stage2Range
-  regions : List MemoryAccessRegion
+pub record View : Type 0 where
+  pub allowed : List Stage2Range
+  pub regions : List MemoryAccessRegion
 
 -- the keys by which these are sorted
-abbrev rangeBase : Stage2Range → ℕ
+abbrev pub rangeBase : Stage2Range → ℕ
 rangeBase r = r .«base_ipa»
 
-abbrev regionBase : MemoryAccessRegion → ℕ
+abbrev pub regionBase : MemoryAccessRegion → ℕ
 regionBase r = r .«base_ipa»
 
 -- what a policy holds
-abbrev view : Policy → View
+abbrev pub view : Policy → View
 view p = record { allowed = sortBy rangeBase (allowedHeld p); regions = regionsHeld p }
 
 -- an accepted call puts its record at its place by base
-abbrev put : View → BuilderCall → View
+abbrev pub put : View → BuilderCall → View
 put v (allow base size attributes) =
     record { allowed = insertBy rangeBase (rangeOf base size attributes) (v .allowed); regions = v .regions }
 put v (handle base size read write) =
     record { allowed = v .allowed; regions = insertBy regionBase (regionOf base size read write) (v .regions) }
 
 -- the range that a call asks for, and its bytes
-abbrev baseOf : BuilderCall → ℕ
+abbrev pub baseOf : BuilderCall → ℕ
 baseOf (allow base size attributes) = base
 baseOf (handle base size read write) = base
 
-abbrev sizeOf : BuilderCall → ℕ
+abbrev pub sizeOf : BuilderCall → ℕ
 sizeOf (allow base size attributes) = size
 sizeOf (handle base size read write) = size
 
-abbrev bytesOf : BuilderCall → PageRange
+abbrev pub bytesOf : BuilderCall → PageRange
 bytesOf c = pageRange (baseOf c) (sizeOf c)
 
 -- the handlers that a call names are known
-abbrev Known : BuilderCall → Type 0
+abbrev pub Known : BuilderCall → Type 0
 Known (allow base size attributes) = Unit {0}
 Known (handle base size read write) = (isHandler read && isHandler write) ≡ true
 
 -- there is room for its record
-abbrev Room : View → BuilderCall → Type 0
+abbrev pub Room : View → BuilderCall → Type 0
 Room v (allow base size attributes) = length (v .allowed) < 32
 Room v (handle base size read write) = length (v .regions) < 16
 
 -- no record held shares one of these bytes
-abbrev Clear : View → PageRange → Type 0
+abbrev pub Clear : View → PageRange → Type 0
 Clear v bytes =
     ((r : Stage2Range) → List·Memᴰ r (v .allowed) → sharesByte (rangeBytes r) bytes ≡ false)
     × ((r : MemoryAccessRegion) → List·Memᴰ r (v .regions) → sharesByte (regionBytes r) bytes ≡ false)
 
 -- a call can be accepted: its arguments fit, there is room, no byte is shared
-record Fits (v : View) (c : BuilderCall) : Type 0 where
-  known : Known c
-  valid : ValidRange (baseOf c) (sizeOf c)
-  room : Room v c
-  clear : Clear v (bytesOf c)
+pub record Fits (v : View) (c : BuilderCall) : Type 0 where
+  pub known : Known c
+  pub valid : ValidRange (baseOf c) (sizeOf c)
+  pub room : Room v c
+  pub clear : Clear v (bytesOf c)
 
 -- bytes share none with what a policy holds exactly where they are clear of it
 apart-clear : (p : Policy) (bytes : PageRange) → Apart p bytes → Clear (view p) bytes
@@ -94,44 +96,38 @@ clear-apart p bytes k =
 
 -- A well-formed policy accepts exactly the calls that fit what it holds, and then holds one record more.
 module _ (p : Policy) (w : WellFormed p) where
-  -- as many are held as the counts say
-  allowed-length : length (sortBy rangeBase (allowedHeld p)) ≡ p .«allowed_count»
-  allowed-length =
-      let e = length-held 32 (p .«allowed_count») (p .allowed) (omega (arith, w .allowed-places .all)) in
-      sort-length rangeBase (allowedHeld p) ∙ omega (arith, e, w .allowed-places .within)
-
-  regions-length : length (regionsHeld p) ≡ p .«region_count»
-  regions-length =
-      let e = length-held 16 (p .«region_count») (p .regions) (omega (arith, w .region-places .all)) in
-      omega (arith, e, w .region-places .within)
+  -- as many allowed ranges are seen as their count says
+  ranges-length : length (sortBy rangeBase (allowedHeld p)) ≡ p .«allowed_count»
+  ranges-length = sort-length rangeBase (allowedHeld p) ∙ allowed-length p w
 
   -- a call that is accepted fits
-  accepted-fits : (c : BuilderCall) → build p c .answer ≡ Accepted → Fits (view p) c
+  pub accepted-fits : (c : BuilderCall) → build p c .answer ≡ Accepted → Fits (view p) c
   accepted-fits (allow base size attributes) h =
       let k = allow-accepted p base size attributes h in
       let clear = apart-clear p (pageRange base size) (k .apart) in
-      record { known = tt; valid = k .fits; room = omega (arith, k .room, allowed-length); clear = clear }
+      record { known = tt; valid = k .fits; room = omega (arith, k .room, ranges-length); clear = clear }
   accepted-fits (handle base size read write) h =
       let k = handle-accepted p base size read write h in
       let clear = apart-clear p (pageRange base size) (k .apart) in
-      record { known = k .handlers; valid = k .fits; room = omega (arith, k .room, regions-length); clear = clear }
+      record { known = k .handlers; valid = k .fits; room = omega (arith, k .room, regions-length p w); clear = clear }
 
   -- a call that fits is accepted, and its record is held
-  fits-accepted : (c : BuilderCall) → Fits (view p) c → (build p c .answer ≡ Accepted) × (view (build p c .policy) ≡ put (view p) c)
-  unfolding addAllowed addRegion
+  pub fits-accepted : (c : BuilderCall) → Fits (view p) c → (build p c .answer ≡ Accepted) × (view (build p c .policy) ≡ put (view p) c)
   fits-accepted (allow base size attributes) f =
       let r : Stage2Range = rangeOf base size attributes in
-      let room : p .«allowed_count» < 32 = omega (arith, f .room, allowed-length) in
+      let room : p .«allowed_count» < 32 = omega (arith, f .room, ranges-length) in
       let k : CanAllow p base size = record { fits = f .valid; room = room; apart = clear-apart p (pageRange base size) (f .clear) } in
-      let held = allowed-held p r (w .allowed-places .all) room ∙ insert-end r (allowedHeld p) in
-      let e = ap (sortBy rangeBase) held ∙ sort-append rangeBase r (allowedHeld p) in
-      rw (can-allow p base size attributes k) (refl, λ i. record { allowed = e i; regions = regionsHeld p })
+      let taken = ap (λ (b : Built). b .answer) (can-allow p base size attributes k) in
+      let h = allow-holds p w base size attributes taken in
+      let e = ap (sortBy rangeBase) (h .0 ∙ insert-end r (allowedHeld p)) ∙ sort-append rangeBase r (allowedHeld p) in
+      (taken, λ i. record { allowed = e i; regions = h .1 i })
   fits-accepted (handle base size read write) f =
-      let room : p .«region_count» < 16 = omega (arith, f .room, regions-length) in
+      let room : p .«region_count» < 16 = omega (arith, f .room, regions-length p w) in
       let apart = clear-apart p (pageRange base size) (f .clear) in
       let k : CanHandle p base size read write = record { handlers = f .known; fits = f .valid; room = room; apart = apart } in
-      let e = regions-held p (regionOf base size read write) (w .region-places .all) room in
-      rw (can-handle p base size read write k) (refl, λ i. record { allowed = view p .allowed; regions = e i })
+      let taken = ap (λ (b : Built). b .answer) (can-handle p base size read write k) in
+      let h = handle-holds p w base size read write taken in
+      (taken, λ i. record { allowed = sortBy rangeBase (h .0 i); regions = h .1 i })
 
 -- Bytes are clear of what is held after a call exactly where they are clear of what was held and of the call's range.
 module _ (v : View) (bytes : PageRange) where
@@ -196,11 +192,6 @@ perm-leads (List·Permᴰ·swap {a = a} {b = b} {l = l} e₁ e₂) v u h =
     subst₂ (λ x y. Leads v (x ∷ y ∷ l) u) e₂ e₁ (t .0, (t .1, subst (λ x. Leads x l u) (t .2) (h .1 .1)))
 perm-leads (List·Permᴰ·trans d₁ d₂) v u h = perm-leads d₂ v u (perm-leads d₁ v u h)
 
--- an answer with the number 0 accepts
-zero-accepted : (s : Stage2Result) → resultNumber s ≡ 0 → s ≡ Accepted
-zero-accepted Accepted e = refl
-zero-accepted (Refused error) e = absurd (error-not-zero error e)
-
 -- the calls of a list that are accepted lead to what is held after all of them
 accepted-leads : (p : Policy) (calls : List BuilderCall) → WellFormed p → Leads (view p) (accepted p calls) (view (buildAll p calls))
 accepted-leads p [] w = refl
@@ -226,6 +217,25 @@ leads-accepted p (c ∷ cs) u w h =
     let f = fits-accepted p w c (h .0) in
     let r = leads-accepted (build p c .policy) cs u (build-keeps p c w) (subst (λ v. Leads v cs u) (sym (f .1)) (h .1)) in
     ((f .0, r .0), r .1)
+
+-- two lists of calls are all accepted one after the other
+pub all-append : (a b : List BuilderCall) (p : Policy) → AllAccepted p a → AllAccepted (buildAll p a) b → AllAccepted p (a ++ b)
+all-append [] b p h k = k
+all-append (c ∷ cs) b p h k = (h .0, all-append cs b (build p c .policy) (h .1) k)
+
+-- and where both together are, each is
+pub all-parts : (a b : List BuilderCall) (p : Policy) → AllAccepted p (a ++ b) → AllAccepted p a × AllAccepted (buildAll p a) b
+all-parts [] b p h = (tt, h)
+all-parts (c ∷ cs) b p h =
+    let r = all-parts cs b (build p c .policy) (h .1) in
+    ((h .0, r .0), r .1)
+
+-- where all calls are accepted, the accepted ones are all
+pub accepted-all : (calls : List BuilderCall) (p : Policy) → AllAccepted p calls → accepted p calls ≡ calls
+accepted-all [] p h = refl
+accepted-all (c ∷ cs) p h =
+    let e : accepts p c ≡ true = rw (h .0) refl in
+    rw e (ap (_∷_ c) (accepted-all cs (build p c .policy) (h .1)))
 
 -- The calls of a list that are accepted, in any order: each is accepted again, and the policies are the same.
 pub any-order : (p q : Policy) (calls order : List BuilderCall) → WellFormed p → WellFormed q → SamePolicy p q

@@ -2,7 +2,7 @@
 use mathlib.Core.Path.{_≡_, refl, ap}
 use mathlib.Core.List.{List·Memᴰ·not-nil}
 use lib.Seq.{set-getD}
-use Rattle.stage2.proofs.Laws.{build-refused}
+use Rattle.stage2.proofs.Changes.{change-refused}
 use Rattle.simple_map.proofs.Laws.{insert-refused}
 use Rattle.exceptions.specs.Registers.{freshCore, coreOf}
 use Rattle.exceptions.proofs.Laws.{write-refused}
@@ -10,11 +10,11 @@ use Rattle.core_answers.specs.Answers.{resultWords}
 use Rattle.core_answers.proofs.Laws.{refused-zero}
 use Rattle.hypervisor.specs.declared.Trapped.{Trapped}
 use Rattle.hypervisor.proofs.Kept.{save-refused, reply-refused, trap-refused}
-use Rattle.order_independence.specs.Calls.{State, HostCall, build, core-call, save, trap, reply, write-gpr, insert, get, remove, answerNumber, answerValues, AllZero, withPolicy, withCores, withMap, call}
+use Rattle.order_independence.specs.Calls.{State, HostCall, change, core-call, save, trap, reply, write-gpr, insert, get, remove, answerValues, AllZero, withPolicy, withCores, withMap, call, IsRefused}
 
 -- "A refusal returns its number .., and all state is as before"
-pub refusal-keeps : (s : State) (c : HostCall) → (answerNumber (call s c .answer) ≡ 0 → ⊥) → call s c .state ≡ s
-refusal-keeps s (build c) h = ap (withPolicy s) (build-refused (s .policy) c h)
+pub refusal-keeps : (s : State) (c : HostCall) → IsRefused s c → call s c .state ≡ s
+refusal-keeps s (change c) h = ap (withPolicy s) (change-refused (s .policy) c h)
 refusal-keeps s (core-call (save core x elr spsr)) h = ap (withCores s) (save-refused (s .cores) core x elr spsr h)
 refusal-keeps s (core-call (trap core registers)) h =
     ap (λ (t : Trapped). record { policy = t .policy; cores = t .cores; counter = t .counter; map = s .map })
@@ -27,8 +27,8 @@ refusal-keeps s (core-call (get key)) h = refl
 refusal-keeps s (core-call (remove key)) h = absurd (h refl)
 
 -- "A refusal returns its number with every other result field 0"
-pub refusal-zero : (s : State) (c : HostCall) → (answerNumber (call s c .answer) ≡ 0 → ⊥) → AllZero (answerValues (call s c .answer))
-refusal-zero s (build c) h v m = absurd (List·Memᴰ·not-nil m)
+pub refusal-zero : (s : State) (c : HostCall) → IsRefused s c → AllZero (answerValues (call s c .answer))
+refusal-zero s (change c) h v m = absurd (List·Memᴰ·not-nil m)
 refusal-zero s (core-call (save core x elr spsr)) h v m = absurd (List·Memᴰ·not-nil m)
 refusal-zero s (core-call (trap core registers)) h v m =
     let kept = trap-refused (s .policy) (s .cores) (s .counter) core registers h in

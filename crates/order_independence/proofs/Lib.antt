@@ -1,5 +1,6 @@
 -- Laws over the host's calls and over lists of them, and demand 3.
 pub mod Calls
+pub mod Struck
 pub mod Waiting
 pub mod Builds
 pub mod CounterWord

@@ -80,7 +80,7 @@ module _ (fits : CoreCall → Bool) (P : Answer → Type 0) (Q : State → Type 
         go false e k below = below k
 
 -- 10: "number above 7"
-above-is-10 : (s : State) (c : CoreCall) → isAbove c ≡ true → answerNumber (coreCall s c .answer) ≡ 10
+pub above-is-10 : (s : State) (c : CoreCall) → isAbove c ≡ true → answerNumber (coreCall s c .answer) ≡ 10
 above-is-10 s (save core x elr spsr) e = save-number (s .cores) core x elr spsr ∙ rw e
 above-is-10 s (trap core registers) e = trap-number (s .policy) (s .cores) (s .counter) core registers ∙ rw e
 above-is-10 s (reply core result) e = reply-number (s .cores) core result ∙ rw e

@@ -23,7 +23,7 @@ use Rattle.core_answers.specs.declared.TrapStep.{TrapStep}
 use Rattle.hypervisor.specs.declared.Trapped.{Trapped}
 use Rattle.core_answers.specs.Answers.{coreNumber, isForwarded}
 use Rattle.hypervisor.specs.Cores.{freshCores, saveCore, onCore, saveOn, replyOn, trapOn}
-use Rattle.order_independence.specs.Calls.{State, freshState, HostCall, build, core-call, GprForm, save, trap, reply, write-gpr, insert, get, remove, call, callAll, waitOf, outstandingAfter, outstanding}
+use Rattle.order_independence.specs.Calls.{State, freshState, HostCall, change, core-call, GprForm, save, trap, reply, write-gpr, insert, get, remove, call, callAll, waitOf, outstandingAfter, outstanding}
 use Rattle.hypervisor.proofs.Waiting.{save-wait, trap-waits}
 use Rattle.hypervisor.proofs.Steps.{trap-step, trap-others, trap-places, core-step, core-others, core-places}
 
@@ -80,7 +80,7 @@ module _ (s : State) (i : ℕ) (within : i ≤ 7) (places : length (s .cores) �
       (λ j h. ap (λ (c : Core). waits (c .wait)) (getD-set-other (s .cores) j i (written j) freshCore h))
 
   waits-after : (c : HostCall) → waits (waitOf (call s c .state) i) ≡ outstandingAfter s i (waits (waitOf s i)) c
-  waits-after (build c) = refl
+  waits-after (change c) = refl
   waits-after (core-call (save core x elr spsr)) = save-after x elr spsr core
   waits-after (core-call (trap core registers)) = trap-after registers core
   waits-after (core-call (reply core result)) = reply-after result core
@@ -92,7 +92,7 @@ module _ (s : State) (i : ℕ) (within : i ≤ 7) (places : length (s .cores) �
 -- every call keeps the number of cores
 pub call-places : (s : State) (c : HostCall) → length (call s c .state .cores) ≡ length (s .cores)
 unfolding saveOn replyOn
-call-places s (build c) = refl
+call-places s (change c) = refl
 call-places s (core-call (save core x elr spsr)) = core-places (s .cores) core _
 call-places s (core-call (trap core registers)) = trap-places (s .policy) (s .cores) (s .counter) core registers
 call-places s (core-call (reply core result)) = core-places (s .cores) core _

@@ -9,7 +9,8 @@ use Rattle.stage2_range.specs.declared.Stage2Result.{Stage2Result}
 use Rattle.stage2_range.specs.Ranges.{resultNumber}
 use Rattle.stage2.specs.declared.Policy.{Policy}
 use Rattle.stage2.specs.Policy.{freshPolicy}
-use Rattle.stage2.specs.Builds as builds
+use Rattle.stage2.specs.Builds.{BuilderCall, buildAll}
+use Rattle.stage2.specs.Changes as changes
 use Rattle.simple_map.specs.declared.SimpleMap.{SimpleMap}
 use Rattle.simple_map.specs.declared.SuspendCoreData.{SuspendCoreData}
 use Rattle.simple_map.specs.declared.Insertion.{Insertion}
@@ -53,14 +54,14 @@ pub data CoreCall : Type 0 where
   get : (key : ℕ) → CoreCall
   remove : (key : ℕ) → CoreCall
 
--- the calls of the host: a builder call, or a core step
+-- the calls of the host: a call that changes the policy, or a core step
 pub data HostCall : Type 0 where
-  build : (call : builds.BuilderCall) → HostCall
+  change : (call : changes.PolicyCall) → HostCall
   core-call : (call : CoreCall) → HostCall
 
 -- what a call answers, with every result field beside the state
 pub data Answer : Type 0 where
-  built : Stage2Result → Answer
+  changed : Stage2Result → Answer
   stepped : CoreAnswer → Answer
   trapped : TrapResult → Answer
   written : GprWrite → Answer
@@ -69,7 +70,7 @@ pub data Answer : Type 0 where
 
 -- its number in document 01's table: 0 where it is no refusal
 abbrev pub answerNumber : Answer → ℕ
-answerNumber (built answer) = resultNumber answer
+answerNumber (changed answer) = resultNumber answer
 answerNumber (stepped answer) = coreNumber answer
 answerNumber (trapped result) = trapNumber (result .answer)
 answerNumber (written answer) = writeNumber answer
@@ -78,7 +79,7 @@ answerNumber (looked-up answer) = 0
 
 -- its other result fields: a trap's kind and values, what a look-up or a remove found
 abbrev pub answerValues : Answer → List ℕ
-answerValues (built answer) = []
+answerValues (changed answer) = []
 answerValues (stepped answer) = []
 answerValues (trapped result) = resultWords result
 answerValues (written answer) = []
@@ -131,14 +132,14 @@ coreCall s (remove key) =
 
 -- a call, by the same
 abbrev pub call : State → HostCall → Called
-call s (build c) =
-    let b = builds.build (s .policy) c in
-    record { answer = built (b .answer); state = withPolicy s (b .policy) }
+call s (change c) =
+    let b = changes.change (s .policy) c in
+    record { answer = changed (b .answer); state = withPolicy s (b .policy) }
 call s (core-call c) = coreCall s c
 
 -- the state after a list of builder calls
-abbrev pub afterBuilds : State → List builds.BuilderCall → State
-afterBuilds s calls = withPolicy s (builds.buildAll (s .policy) calls)
+abbrev pub afterBuilds : State → List BuilderCall → State
+afterBuilds s calls = withPolicy s (buildAll (s .policy) calls)
 
 -- the state after a list of core steps: "Each call gets the state that the last one handed back"
 abbrev pub afterSteps : State → List CoreCall → State
@@ -158,13 +159,21 @@ abbrev pub callAll : State → List HostCall → State
 callAll s [] = s
 callAll s (c ∷ cs) = callAll (call s c .state) cs
 
+-- all answers of a run, in order
+abbrev pub callAnswers : State → List HostCall → List Answer
+callAnswers s calls = answersIn (λ t c. call t c .answer) (λ t c. call t c .state) (λ c. true) s calls
+
+-- a call is refused: its answer has another number than 0
+abbrev pub IsRefused : State → HostCall → Type 0
+IsRefused s c = answerNumber (call s c .answer) ≡ 0 → ⊥
+
 -- what a core waits for
 abbrev pub waitOf : State → ℕ → Wait
 waitOf s i = coreOf (s .cores) i .wait
 
 -- whether core `i` is between a forwarded call (document 01: a hand-out) and its reply, after one more call
 abbrev pub outstandingAfter : State → ℕ → Bool → HostCall → Bool
-outstandingAfter s i before (build c) = before
+outstandingAfter s i before (change c) = before
 outstandingAfter s i before (core-call (save core x elr spsr)) = before
 outstandingAfter s i before (core-call (trap core registers)) =
     cond (eqb core i && isForwarded (trapOn (s .policy) (s .cores) (s .counter) core registers .result .answer)) true before

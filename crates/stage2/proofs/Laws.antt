@@ -34,6 +34,11 @@ error-not-zero TooManyMemoryAccessHandlerRegions h = omega arith
 error-not-zero MemoryAccessHandlerRangeOverlap h = omega arith
 error-not-zero UnknownMemoryHandler h = omega arith
 
+-- so an answer with the number 0 accepts
+pub zero-accepted : (s : Stage2Result) → resultNumber s ≡ 0 → s ≡ Accepted
+zero-accepted Accepted e = refl
+zero-accepted (Refused error) e = absurd (error-not-zero error e)
+
 -- the number of one answer after another is that of their cases, one list after the other
 pub after-number : (base size : ℕ) (first rest : Stage2Result) (more : List Case) → resultNumber first ≡ firstMet (rangeCases base size)
     → resultNumber rest ≡ firstMet more → resultNumber (after first rest) ≡ firstMet (rangeCases base size ++ more)

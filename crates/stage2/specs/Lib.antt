@@ -1,3 +1,4 @@
 -- What the contracts of `stage2` cite.
 pub mod Policy
 pub mod Builds
+pub mod Changes
