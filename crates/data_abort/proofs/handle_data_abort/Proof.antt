@@ -1,3 +1,4 @@
+-- The step goes by what comes of the access (by-outcome): a load, a store, or the injection.
 use Rattle.data_abort.proofs.Laws.{by-outcome}
 use borrow.Author.Needs.{needs}
 use Rattle.data_abort.proofs.handle_data_abort.Statement.{statement}

@@ -1,3 +1,4 @@
+-- The step goes by what was decided, of the error as the record holds it.
 use mathlib.Core.Path.{_≡_, ap, _∙_}
 use lib.ListN.{getD}
 use mir.Syntax.{w32}

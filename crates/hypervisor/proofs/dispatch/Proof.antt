@@ -1,3 +1,4 @@
+-- Each exception class is its arm of the dispatch, by the contract of the function called.
 use Rattle.hypervisor.specs.Trap.{byClass}
 use borrow.Author.Needs.{needs}
 use Rattle.hypervisor.proofs.dispatch.Statement.{statement}

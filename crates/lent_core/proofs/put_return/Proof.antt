@@ -1,3 +1,4 @@
+-- Six words are stored; the others stand as the core would be stored (core-put).
 use borrow.Author.Needs.{needs}
 use mathlib.Core.Path.{refl}
 use mathlib.Core.List.{[], _∷_}

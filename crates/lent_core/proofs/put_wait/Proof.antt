@@ -1,3 +1,4 @@
+-- One word is stored, the code of the wait; the others stand as the core would be stored (core-put).
 use borrow.Author.Needs.{needs}
 use Prim.Native.Nat.{_+_, _*_}
 use mathlib.Core.Path.{refl}

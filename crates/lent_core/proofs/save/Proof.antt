@@ -1,3 +1,4 @@
+-- Above 7 there is no core; else the call is the step of the core that was read, and a refusal stores nothing.
 use native.Mathlib.Omega.{arith}
 use mathlib.Core.Path.{_≡_, refl, sym, _∙_}
 use borrow.Author.Tests.{le-ltb}

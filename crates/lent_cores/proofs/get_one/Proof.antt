@@ -1,3 +1,4 @@
+-- Each field is read from its word.
 use borrow.Author.Needs.{needs}
 use Rattle.lent_cores.specs.Layout.{coreAt}
 use Rattle.lent_cores.proofs.get_one.Statement.{statement}

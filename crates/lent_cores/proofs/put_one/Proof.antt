@@ -1,3 +1,4 @@
+-- Stores of x0 to x30, ELR, SPSR, the EL1 registers and the code are those of the core's words, one after the other.
 use borrow.Author.Needs.{needs}
 use mathlib.Core.Path.{_≡_}
 use lib.ListN.{length}

@@ -1,3 +1,4 @@
+-- The kind, and then the loop's invariant: the values before `i` are stored.
 use native.Mathlib.Omega.{arith}
 use borrow.Author.Needs.{needs}
 use Prim.Native.Nat.{_+_, _-_}

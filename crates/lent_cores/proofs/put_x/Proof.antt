@@ -1,3 +1,4 @@
+-- The loop's invariant: the registers before `i` are stored.
 use native.Mathlib.Omega.{arith}
 use Prim.Native.Nat.{_-_, _+_}
 use mathlib.Core.Path.{_≡_, refl, ap, _∙_}

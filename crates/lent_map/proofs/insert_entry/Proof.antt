@@ -1,3 +1,4 @@
+-- By which place comes first, the key's or a free one: the laws say what each comes to.
 use borrow.Author.Needs.{needs}
 use native.Mathlib.Omega.{arith}
 use mathlib.Core.Path.{refl}

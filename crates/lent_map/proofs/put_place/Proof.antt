@@ -1,3 +1,4 @@
+-- A place that is taken stores four words, and one that becomes free its first.
 use borrow.Author.Needs.{needs}
 use native.Mathlib.Nat.{add-zero}
 use Rattle.lent_map.specs.Layout.{withPlace}

@@ -1,3 +1,4 @@
+-- Each result stores its values from x0 on, arm by arm: one store, four, or the reply's values in parts.
 use mir.Syntax.{w32}
 use mir.ValLaws.{toZ-ofZ}
 use native.Mathlib.Nat.{add-zero}

@@ -1,3 +1,4 @@
+-- The stores of the registers, of ELR and of the wait are the core's, by the law reply-put.
 use native.Mathlib.Omega.{arith}
 use Rattle.lent_reply.proofs.Laws.{reply-put}
 use borrow.Author.Needs.{needs}

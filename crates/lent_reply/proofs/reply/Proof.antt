@@ -1,3 +1,4 @@
+-- Above 7 there is no core; else the call is the step by what was decided, and a refusal stores nothing.
 use native.Mathlib.Omega.{arith}
 use mathlib.Core.Path.{_≡_, refl}
 use mir.Syntax.{w32}

@@ -1,3 +1,4 @@
+-- Each exception class is its arm of the dispatch, by the contract of the function called.
 use mathlib.Core.Path.{refl}
 use Rattle.hypervisor.specs.Trap.{byClass}
 use borrow.Author.Needs.{needs}

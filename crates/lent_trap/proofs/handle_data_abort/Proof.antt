@@ -1,3 +1,4 @@
+-- By what comes of the access: a load stores its core and a counter that grew, a store its core, and else the abort is injected.
 use native.Mathlib.Omega.{arith}
 use mathlib.Core.Path.{refl}
 use borrow.Author.Tests.{le-ltb}

@@ -1,3 +1,4 @@
+-- VBAR 0 is refused; else the stores are the injected core's, and the counter stands as it would be stored.
 use native.Mathlib.Omega.{arith}
 use mathlib.Core.Path.{refl}
 use borrow.Author.Tests.{eq-eqb, ne-eqb, le-ltb}

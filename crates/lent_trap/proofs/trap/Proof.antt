@@ -1,3 +1,4 @@
+-- Above 7 there is no core, a core that waits is refused, and else the trap is dispatched.
 use native.Mathlib.Omega.{arith}
 use mathlib.Core.Path.{refl}
 use Rattle.hypervisor.specs.Trap.{handleSyncLower}

@@ -1,3 +1,4 @@
+-- Eight reads of a byte each are the number of the eight bytes, the lowest first.
 use native.Mathlib.Omega.{arith}
 use borrow.Author.Needs.{needs}
 use mathlib.Core.Path.{sym, ap, _∙_}

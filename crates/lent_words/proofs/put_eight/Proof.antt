@@ -1,3 +1,4 @@
+-- Eight stores of a byte each are the eight bytes of the number, the lowest first.
 use native.Mathlib.Omega.{arith}
 use borrow.Author.Needs.{needs}
 use lib.ListN.{length-set}

@@ -1,3 +1,4 @@
+-- The first word, and then the loop's invariant: the words before the place are stored.
 use native.Mathlib.Omega.{arith}
 use borrow.Author.Needs.{needs}
 use Prim.Native.Nat.{_+_, _-_}

@@ -1,3 +1,4 @@
+-- The loop goes on while text comes; each line that is whole is taken.
 use Prim.Native.Nat.{_≤_, _-_}
 use mathlib.Core.Path.{_≡_}
 use borrow.Author.Needs.{needs}

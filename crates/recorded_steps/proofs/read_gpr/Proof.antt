@@ -1,3 +1,4 @@
+-- A core above 7 is no record; else the two words of the read are compared one after the other.
 use native.Mathlib.Omega.{arith}
 use borrow.Author.Tests.{lt-ltb, le-ltb}
 use borrow.Author.Needs.{needs}

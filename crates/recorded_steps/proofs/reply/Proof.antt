@@ -1,3 +1,4 @@
+-- An error wider than 32 bits is no record; else the reply is made with the number that its word stands for.
 use mir.Syntax.{w32}
 use mir.ValLaws.{toZ-ofZ}
 use lib.ListN.{getD}

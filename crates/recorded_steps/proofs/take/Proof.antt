@@ -1,3 +1,4 @@
+-- Each code makes its record's call, arm by arm of the match, by the contracts of the functions called.
 use Rattle.recorded_steps.specs.Steps.{coresTaken}
 use borrow.Author.Tests.{ne-eqb}
 use borrow.Author.Needs.{needs}

@@ -1,3 +1,4 @@
+-- A core above 7 is no record; else the core is written in the form asked for and put back.
 use native.Mathlib.Omega.{arith}
 use borrow.Author.Tests.{lt-ltb, le-ltb}
 use borrow.Author.Needs.{needs}

@@ -1,3 +1,4 @@
+-- Each result writes its values from x0 on, arm by arm, by the contract of the loop that writes.
 use mir.Syntax.{w32}
 use mir.ValLaws.{toZ-ofZ}
 use Rattle.hvc_response.specs.Response.{response}

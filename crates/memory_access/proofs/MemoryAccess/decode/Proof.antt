@@ -1,3 +1,4 @@
+-- Each field is the syndrome's, by the contract of the function that decodes it; ISV clear gives no access.
 use mathlib.Core.Path.{_≡_, sym, _∙_}
 use mathlib.Core.Bool.{true}
 use borrow.Author.Tests.{not-true, not-false}

@@ -1,3 +1,4 @@
+-- Each code reads its part of the policy, arm by arm of the match.
 use Rattle.recorded_calls.specs.Policies.{policyRead}
 use borrow.Author.Tests.{ne-eqb}
 use borrow.Author.Needs.{needs}

@@ -1,3 +1,4 @@
+-- Each code makes its record's call, arm by arm of the match.
 use Rattle.recorded_calls.specs.Values.{valueCompared}
 use borrow.Author.Tests.{ne-eqb}
 use borrow.Author.Needs.{needs}

@@ -1,3 +1,4 @@
+-- The loop's invariant: the words before the place are compared.
 use Prim.Native.Nat.{_≤_, _<_, _-_}
 use mathlib.Core.Path.{_≡_, refl}
 use mathlib.Core.List.{foldl}
