@@ -1,4 +1,4 @@
--- The loop goes on while text comes; each line that is whole is taken.
+-- The loop's invariant: the buffer keeps its length; the reads are counted, so that the loop ends.
 use Prim.Native.Nat.{_≤_, _-_}
 use mathlib.Core.Path.{_≡_}
 use borrow.Author.Needs.{needs}
