@@ -9,7 +9,7 @@ use lib.Dec.{ltb, leb, eqb}
 use lib.ListN.{length, getD}
 use Rattle.lists.specs.Lists.{held}
 use Rattle.lists.specs.Refusals.{firstMet}
-use Rattle.lists.proofs.Laws.{FirstLeft, first-here, first-later, first-none, none-first, both-true, cond-map}
+use Rattle.lists.proofs.Laws.{FirstLeft, first-here, first-later, any-none, none-any, both-true, cond-map}
 use Rattle.stage2_range.specs.declared.Stage2ConfigError.{Stage2ConfigError}
 use Rattle.stage2_range.specs.declared.Stage2Result.{Stage2Result}
 use Rattle.stage2_range.specs.declared.Stage2Result.the-variants.{Accepted}
@@ -150,11 +150,11 @@ module _ (base size : ℕ) (v : ValidRange base size) where
 module _ {A : Type 0} (bytesOf : A → PageRange) (records : List A) (bytes : PageRange) where
   pub overlaps-none : overlaps bytesOf records bytes ≡ false → (x : A) → List·Memᴰ x records → sharesByte (bytesOf x) bytes ≡ false
   unfolding overlaps
-  overlaps-none e = first-none (λ x. sharesByte (bytesOf x) bytes) (λ x. true) false (λ x t. true≢false) records e
+  overlaps-none e = any-none (λ x. sharesByte (bytesOf x) bytes) records e
 
   pub none-overlaps : ((x : A) → List·Memᴰ x records → sharesByte (bytesOf x) bytes ≡ false) → overlaps bytesOf records bytes ≡ false
   unfolding overlaps
-  none-overlaps h = none-first (λ x. sharesByte (bytesOf x) bytes) (λ x. true) false records h
+  none-overlaps h = none-any (λ x. sharesByte (bytesOf x) bytes) records h
 
   -- what a test of a record's bytes says, it says of the record
   pub overlaps-told : {r : PageRange} {t v : Bool} → t ≡ overlaps bytesOf records r → r ≡ bytes → t ≡ v → overlaps bytesOf records bytes ≡ v
