@@ -13,7 +13,7 @@ use Rattle.stage2_range.specs.declared.MemoryAccessRegion.{MemoryAccessRegion}
 use Rattle.stage2_range.specs.Ranges.{rangeWords}
 use Rattle.stage2_range.specs.Handlers.{handlers, handlerOf}
 use Rattle.stage2_range.proofs.Handlers.{named-number}
-use Rattle.lent_policy.specs.Layout.{policySize, rangeStart, allowedCountAt, regionStart, rangeAt, withRange, regionAt, keptHandler, regionStored, withRegion, withAllowed}
+use Rattle.lent_policy.specs.Layout.{policySize, rangeStart, allowedCountAt, regionStart, rangeAt, withRange, regionAt, keptHandler, regionStored, withRegion, withAllowed, readWord, writeWord}
 use Rattle.lent_policy.proofs.Records.{range-beside}
 
 -- to write the handler that a word means keeps the word
@@ -35,7 +35,7 @@ module _ (b : List ℕ) (k : ℕ) (lent : Lent policySize b) where
   region-rewritten = ap (withWords b (regionStart k)) there ∙ words-rewritten b (regionStart k) 5 (lent .bytes)
     where
       there : regionStored b k (regionAt b k) ≡ wordsAt b (regionStart k) 5
-      there = rw (add-zero (regionStart k), handler-kept (wordAt b (regionStart k + 3)), handler-kept (wordAt b (regionStart k + 4)))
+      there = rw (add-zero (regionStart k), handler-kept (wordAt b (regionStart k + readWord)), handler-kept (wordAt b (regionStart k + writeWord)))
 
 -- lent bytes are lent bytes with another range, and with another region
 pub range-lent : (b : List ℕ) (k : ℕ) (r : Stage2Range) → Lent policySize b → Lent policySize (withRange b k r)
@@ -84,8 +84,8 @@ region-comm b i x j y h =
         → regionStored (withWords b (regionStart i) (regionStored b i x)) j y ≡ regionStored b j y
     kept i x j y h =
         rw (
-          words-beside b (regionStart i) (regionStored b i x) (regionStart j + 3) (omega arith),
-          words-beside b (regionStart i) (regionStored b i x) (regionStart j + 4) (omega arith),
+          words-beside b (regionStart i) (regionStored b i x) (regionStart j + readWord) (omega arith),
+          words-beside b (regionStart i) (regionStored b i x) (regionStart j + writeWord) (omega arith),
         )
 
 -- ranges of which one differs are stored by one store

@@ -20,7 +20,7 @@ use Rattle.stage2_range.specs.Ranges.{largestEnd, pageRange, rangeOf, rangeWord
 use Rattle.stage2_range.specs.Handlers.{handlers, handlerOf, handlerNumber}
 use Rattle.stage2_range.specs.Registry.{regionOf}
 use Rattle.stage2_range.proofs.Handlers.{handler-code}
-use Rattle.lent_policy.specs.Layout.{policySize, rangeStart, allowedCountAt, regionStart, regionCountAt, rangeAt, withRange, regionAt, keptHandler, regionStored, withRegion}
+use Rattle.lent_policy.specs.Layout.{policySize, rangeStart, allowedCountAt, regionStart, regionCountAt, rangeAt, withRange, regionAt, keptHandler, regionStored, withRegion, readWord, writeWord}
 
 -- one of the thirty-two ranges
 pub range-of : (policy : List ℕ) (k : ℕ) (d : Stage2Range) → k < 32 → getD (each (rangeAt policy) 0 32) k d ≡ rangeAt policy k
@@ -107,8 +107,8 @@ module _ (b : List ℕ) (k : ℕ) where
   unfolding withRegion
   region-back r lent h fits =
       record-written (region-in k) b (regionStored b k r) refl (omega arith)
-      (omega (arith, code (r .handler .read) (regionStart k + 3), code (r .handler .write) (regionStart k + 4)))
-      ∙ rw (handler-back (wordAt b (regionStart k + 3)) (r .handler .read), handler-back (wordAt b (regionStart k + 4)) (r .handler .write))
+      (omega (arith, code (r .handler .read) (regionStart k + readWord), code (r .handler .write) (regionStart k + writeWord)))
+      ∙ rw (handler-back (wordAt b (regionStart k + readWord)) (r .handler .read), handler-back (wordAt b (regionStart k + writeWord)) (r .handler .write))
     where
       code : (h : MemoryHandler) (i : ℕ) → FitsWord (keptHandler (wordAt b i) h)
       code h i = code-fits (length handlers) (wordAt b i) (handlerNumber h) (word-fits b i (lent .bytes)) (omega (arith, handler-code h))

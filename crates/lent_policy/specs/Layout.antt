@@ -11,6 +11,22 @@ use Rattle.stage2_range.specs.Ranges.{rangeWords}
 use Rattle.stage2_range.specs.Handlers.{handlers, handlerOf, handlerNumber}
 use Rattle.stage2.specs.declared.Policy.{Policy}
 
+-- the words of a range and of a region, past the base: size and end, then a range's attributes, or the codes of a region's handlers
+abbrev pub sizeWord : ℕ
+sizeWord = 1
+
+abbrev pub endWord : ℕ
+endWord = 2
+
+abbrev pub attributesWord : ℕ
+attributesWord = 3
+
+abbrev pub readWord : ℕ
+readWord = 3
+
+abbrev pub writeWord : ℕ
+writeWord = 4
+
 -- An allowed range is 4 words: base, size, end, attributes. The 32 stand from word 0 on, and their count after them.
 abbrev pub rangeStart : ℕ → ℕ
 rangeStart k = 4 * k
@@ -32,16 +48,16 @@ policySize = 8 * (regionCountAt + 1)
 
 -- the bytes of the range or the region whose words begin at a place
 abbrev pub bytesAt : List ℕ → ℕ → PageRange
-bytesAt policy at = record { «base_ipa» = wordAt policy at; «end_ipa» = wordAt policy (at + 2) }
+bytesAt policy at = record { «base_ipa» = wordAt policy at; «end_ipa» = wordAt policy (at + endWord) }
 
 unfoldable pub rangeAt : List ℕ → ℕ → Stage2Range
 rangeAt policy k =
     let at = rangeStart k in
     record {
       «base_ipa» = wordAt policy at;
-      size = wordAt policy (at + 1);
-      «end_ipa» = wordAt policy (at + 2);
-      attributes = wordAt policy (at + 3);
+      size = wordAt policy (at + sizeWord);
+      «end_ipa» = wordAt policy (at + endWord);
+      attributes = wordAt policy (at + attributesWord);
     }
 
 unfoldable pub withRange : List ℕ → ℕ → Stage2Range → List ℕ
@@ -52,9 +68,9 @@ regionAt policy k =
     let at = regionStart k in
     record {
       «base_ipa» = wordAt policy at;
-      size = wordAt policy (at + 1);
-      handler = record { read = handlerOf (wordAt policy (at + 3)); write = handlerOf (wordAt policy (at + 4)) };
-      «end_ipa» = wordAt policy (at + 2);
+      size = wordAt policy (at + sizeWord);
+      handler = record { read = handlerOf (wordAt policy (at + readWord)); write = handlerOf (wordAt policy (at + writeWord)) };
+      «end_ipa» = wordAt policy (at + endWord);
     }
 
 -- the word to write for a handler: a word that means it stays
@@ -68,8 +84,8 @@ regionStored policy k r =
     r .«base_ipa»
     ∷ r .size
     ∷ r .«end_ipa»
-    ∷ keptHandler (wordAt policy (at + 3)) (r .handler .read)
-    ∷ keptHandler (wordAt policy (at + 4)) (r .handler .write)
+    ∷ keptHandler (wordAt policy (at + readWord)) (r .handler .read)
+    ∷ keptHandler (wordAt policy (at + writeWord)) (r .handler .write)
     ∷ []
 
 unfoldable pub withRegion : List ℕ → ℕ → MemoryAccessRegion → List ℕ

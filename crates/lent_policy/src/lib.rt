@@ -29,6 +29,17 @@ use stage2_range::Stage2Result;
 // The words of the policy's buffer: the allowed ranges, from the first on, and how many there are; the regions, and how many there are.
 const RANGE_WORDS: usize = 4;
 
+// The words of a range and of a region: the base, then these two, then a range's attributes, or the codes of a region's handlers.
+const SIZE_WORD: usize = 1;
+
+const END_WORD: usize = 2;
+
+const ATTRIBUTES_WORD: usize = 3;
+
+const READ_WORD: usize = 3;
+
+const WRITE_WORD: usize = 4;
+
 const ALLOWED_COUNT: usize = 32 * RANGE_WORDS;
 
 const REGIONS: usize = ALLOWED_COUNT + 1;
@@ -47,9 +58,9 @@ fn put_range(policy: &mut [u8; POLICY_SIZE], place: usize, range: Stage2Range)
 {
     let at = RANGE_WORDS * place;
     lent_words::put_word(policy, at, range.base_ipa);
-    lent_words::put_word(policy, at + 1, range.size);
-    lent_words::put_word(policy, at + 2, range.end_ipa);
-    lent_words::put_word(policy, at + 3, range.attributes);
+    lent_words::put_word(policy, at + SIZE_WORD, range.size);
+    lent_words::put_word(policy, at + END_WORD, range.end_ipa);
+    lent_words::put_word(policy, at + ATTRIBUTES_WORD, range.attributes);
 }
 
 // The bytes of the range or the region whose words begin at one: of the others none is read.
@@ -58,7 +69,7 @@ fn get_bytes(policy: &[u8; POLICY_SIZE], at: usize) -> PageRange
     ensures { λ r. ⌜ r ≡ bytesAt (now (policy .entry)) at ⌝ }
 {
     let base_ipa = lent_words::get_word(policy, at);
-    let end_ipa = lent_words::get_word(policy, at + 2);
+    let end_ipa = lent_words::get_word(policy, at + END_WORD);
     PageRange { base_ipa, end_ipa }
 }
 
@@ -69,14 +80,14 @@ fn get_region(policy: &[u8; POLICY_SIZE], place: usize) -> MemoryAccessRegion
 {
     let at = REGIONS + REGION_WORDS * place;
     let handler = MemoryAccessHandler {
-        read: MemoryHandler::from_number(lent_words::get_word(policy, at + 3)),
-        write: MemoryHandler::from_number(lent_words::get_word(policy, at + 4)),
+        read: MemoryHandler::from_number(lent_words::get_word(policy, at + READ_WORD)),
+        write: MemoryHandler::from_number(lent_words::get_word(policy, at + WRITE_WORD)),
     };
     MemoryAccessRegion {
         base_ipa: lent_words::get_word(policy, at),
-        size: lent_words::get_word(policy, at + 1),
+        size: lent_words::get_word(policy, at + SIZE_WORD),
         handler,
-        end_ipa: lent_words::get_word(policy, at + 2),
+        end_ipa: lent_words::get_word(policy, at + END_WORD),
     }
 }
 
@@ -100,13 +111,13 @@ fn put_region(policy: &mut [u8; POLICY_SIZE], place: usize, region: MemoryAccess
     let handler = region.handler;
     let read = handler.read;
     let write = handler.write;
-    let read_code = kept_handler(policy, at + 3, read);
-    let write_code = kept_handler(policy, at + 4, write);
+    let read_code = kept_handler(policy, at + READ_WORD, read);
+    let write_code = kept_handler(policy, at + WRITE_WORD, write);
     lent_words::put_word(policy, at, region.base_ipa);
-    lent_words::put_word(policy, at + 1, region.size);
-    lent_words::put_word(policy, at + 2, region.end_ipa);
-    lent_words::put_word(policy, at + 3, read_code);
-    lent_words::put_word(policy, at + 4, write_code);
+    lent_words::put_word(policy, at + SIZE_WORD, region.size);
+    lent_words::put_word(policy, at + END_WORD, region.end_ipa);
+    lent_words::put_word(policy, at + READ_WORD, read_code);
+    lent_words::put_word(policy, at + WRITE_WORD, write_code);
 }
 
 // How many ranges there are, as the bytes say.
