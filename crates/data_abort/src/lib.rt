@@ -81,9 +81,9 @@ fn try_memory_access_handler(
     match decode_abort(trap) {
         Decoded::Access(access) => {
             let ipa = access.ipa;
+            let rt = core.read_gpr(access.register_index).value();
             let found = stage2_range::find_region(regions, region_count, ipa);
-            let read = core.read_gpr(access.register_index);
-            emulate_access(found, access, read.value(), counter)
+            emulate_access(found, access, rt, counter)
         }
         Decoded::NoSyndrome => AccessOutcome::Unhandled,
     }

@@ -68,9 +68,9 @@ fn try_memory_access_handler(
     match data_abort::decode_abort(trap) {
         Decoded::Access(access) => {
             let ipa = access.ipa;
+            let rt = lent_core::get_gpr(cores, core, access.register_index).value();
             let found = lent_policy::find_region(policy, ipa);
-            let read = lent_core::get_gpr(cores, core, access.register_index);
-            data_abort::emulate_access(found, access, read.value(), counter)
+            data_abort::emulate_access(found, access, rt, counter)
         }
         Decoded::NoSyndrome => AccessOutcome::Unhandled,
     }

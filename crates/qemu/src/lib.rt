@@ -14,46 +14,41 @@ pub struct FilteredRead {
     pub counter: u64,
 }
 
+impl FilteredRead {
+    fn new(result: MemoryReadResult, counter: u64) -> FilteredRead
+        ensures { λ r. ⌜ r ≡ record { result = result; counter = counter } ⌝ }
+    {
+        FilteredRead { result, counter }
+    }
+}
+
 // A load from the filtered page. `counter` is RITM's FILTERED_MMIO_COUNTER.
 pub fn read_filtered_mmio(access: MemoryReadAccess, counter: u64) -> FilteredRead
     ensures { λ r. ⌜ r ≡ readFilteredMmio access counter ⌝ }
 {
     let width = access.width;
-    let word = word_at(access.offset, counter);
-    let counted = counter_after(access.offset, counter);
+    let read = read_word(access.offset, counter);
     if width.bits() == 64 {
-        FilteredRead {
-            result: word,
-            counter: counted,
-        }
+        read
     } else {
-        FilteredRead {
-            result: MemoryReadResult::Fault,
-            counter,
-        }
+        FilteredRead::new(MemoryReadResult::Fault, counter)
     }
 }
 
-fn word_at(offset: u64, counter: u64) -> MemoryReadResult
-    ensures { λ r. ⌜ r ≡ pageWord offset counter ⌝ }
+// A 64-bit load: the word at an offset, and the counter then.
+fn read_word(offset: u64, counter: u64) -> FilteredRead
+    ensures { λ r. ⌜ r ≡ record { result = pageWord offset counter; counter = counterAfter (eqb offset 16) counter } ⌝ }
 {
     match offset {
-        0 => MemoryReadResult::Value(0xFEED_FACE_CAFE_BEEF),
-        16 => MemoryReadResult::Value(counter),
-        24 => MemoryReadResult::Value(0x1111_2222_3333_4444),
-        32 => MemoryReadResult::Value(0x5555_6666_7777_8888),
-        40 => MemoryReadResult::Value(0x9999_AAAA_BBBB_CCCC),
-        _ => MemoryReadResult::Fault,
-    }
-}
-
-fn counter_after(offset: u64, counter: u64) -> u64
-    ensures { λ r. ⌜ r ≡ counterAfter (eqb offset 16) counter ⌝ }
-{
-    if offset == 16 {
-        std::num::wrapping_add_u64(counter, 1)
-    } else {
-        counter
+        0 => FilteredRead::new(MemoryReadResult::Value(0xFEED_FACE_CAFE_BEEF), counter),
+        16 => FilteredRead::new(
+            MemoryReadResult::Value(counter),
+            std::num::wrapping_add_u64(counter, 1),
+        ),
+        24 => FilteredRead::new(MemoryReadResult::Value(0x1111_2222_3333_4444), counter),
+        32 => FilteredRead::new(MemoryReadResult::Value(0x5555_6666_7777_8888), counter),
+        40 => FilteredRead::new(MemoryReadResult::Value(0x9999_AAAA_BBBB_CCCC), counter),
+        _ => FilteredRead::new(MemoryReadResult::Fault, counter),
     }
 }
 

@@ -10,14 +10,14 @@ decode-abort-requires c κs = search needs
 enum-known-access : tie.Need-enum-known-access
 enum-known-access c = search needs
 
-find-region-requires : tie.Need-find-region-requires
-find-region-requires c κs = search needs
-
 get-gpr-requires : tie.Need-get-gpr-requires
 get-gpr-requires c κs = search needs
 
 value-requires : tie.Need-value-requires
 value-requires c κs = search needs
+
+find-region-requires : tie.Need-find-region-requires
+find-region-requires c κs = search needs
 
 emulate-access-requires : tie.Need-emulate-access-requires
 emulate-access-requires c κs = search needs
@@ -28,7 +28,7 @@ enum-told c = search needs
 returns : tie.Need-returns
 returns c =
     let decoded = c .before .before .before .before .before .before .before .before in
-    rw (c .emulate-access .ensures, c .before .value .ensures, c .before .before .get-gpr .ensures, c .before .before .before .find-region .ensures)
+    rw (c .emulate-access .ensures, c .before .find-region .ensures, c .before .before .value .ensures, c .before .before .before .get-gpr .ensures)
     (access-tried _ _ _ _ _ (sym (decoded .decode-abort .ensures) ∙ c .before .before .before .before .before .before .access .given .1))
 
 returns-2 : tie.Need-returns-2
@@ -40,9 +40,9 @@ try-memory-access-handler-spec =
     (tie.spec
     decode-abort-requires
     enum-known-access
-    find-region-requires
     get-gpr-requires
     value-requires
+    find-region-requires
     emulate-access-requires
     enum-told
     returns
