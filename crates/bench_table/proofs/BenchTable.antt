@@ -9,7 +9,7 @@ use Rattle.stage2_range.specs.Registry.{findRegion, insertRegion, registerAnswe
 use Rattle.stage2.specs.Policy.{freshPolicy, allowAnswerFor, addAllowed, allowRange, handleAnswerFor, addRegion, handleRange}
 use Rattle.exceptions.specs.Registers.{freshCore, withRegisters, advancePc}
 use Rattle.hvc_response.specs.Response.{response, withFirst, resultOfKind}
-use Rattle.data_abort.specs.DataAbort.{injectionDue, injected, injectDataAbort, handleDataAbort}
+use Rattle.data_abort.specs.DataAbort.{injectionDue, tryMemoryAccess, injected, injectDataAbort, handleDataAbort}
 use Rattle.forwarded_call.specs.ForwardedCall.{recipientOf, withWait, forwardCall, mayReply, resumed, decideReply, replyCore}
 use Rattle.hypervisor.specs.Trap.{exceptionClass, byClass, handleSyncLower}
 use Rattle.hypervisor.specs.Cores.{freshCores, saveCore, onCore, saveOn, replyOn, trapOn}
@@ -22,6 +22,6 @@ unfolding
     held bitsAt bitAt faultIpa decodeAccess lowBits signExtend loaded atRegisterWidth extendReadResult validateRange hasByte
     sharesByte overlaps findRegion insertRegion registerAnswer freshPolicy allowAnswerFor addAllowed allowRange
     handleAnswerFor addRegion handleRange freshCore withRegisters response withFirst resultOfKind advancePc injectionDue withBits
-    injected injectDataAbort handleDataAbort exceptionClass recipientOf withWait forwardCall byClass handleSyncLower
+    tryMemoryAccess injected injectDataAbort handleDataAbort exceptionClass recipientOf withWait forwardCall byClass handleSyncLower
     freshCores saveCore mayReply resumed decideReply replyCore onCore saveOn replyOn trapOn oneRegion savedCores trapped replied
 bench-table-holds = refl

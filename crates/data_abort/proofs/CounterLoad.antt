@@ -32,8 +32,9 @@ use Rattle.core_answers.specs.declared.TrapAnswer.the-variants.{AccessHandled}
 use Rattle.core_answers.specs.declared.TrapStep.{TrapStep}
 use Rattle.core_answers.specs.Answers.{answered}
 use Rattle.data_abort.specs.declared.TrapRegisters.{TrapRegisters}
-use Rattle.data_abort.specs.DataAbort.{iss, accessBy, offsetIn, isAbsent, pageRead, isReadFault, deviceFault, notHandled, injectionDue, wordRead, handled, injectDataAbort, handleDataAbort}
+use Rattle.data_abort.specs.DataAbort.{iss, accessBy, offsetIn, isAbsent, pageRead, isReadFault, deviceFault, notHandled, injectionDue, wordRead, injectDataAbort, handleDataAbort}
 use Rattle.data_abort.specs.CounterLoad.{CounterLoad}
+use Rattle.data_abort.proofs.Laws.{handled, by-cases}
 
 -- A load of the counter word puts the counter as it was into Rt, and the counter grows by 1 modulo 2^64.
 pub counter-answered : (regions : List MemoryAccessRegion) (core : Core) (counter : ℕ) (trap : TrapRegisters) → CounterLoad regions trap →
@@ -41,11 +42,11 @@ pub counter-answered : (regions : List MemoryAccessRegion) (core : Core) (counte
     handleDataAbort regions core counter trap
     ≡ answered (AccessHandled Read) (advancePc (writeGpr core (access .«register_index») (extendReadResult access counter) .core))
     ((counter + 1) % 2 ^ 64)
-unfolding handleDataAbort injectionDue loadsCounter
+unfolding injectionDue loadsCounter
 counter-answered regions core counter trap l =
     let access = accessBy trap in
     let of-counter : loadsCounter (pageRead access (l .found .offset)) ≡ true = rw (l .sas-3, l .offset-16) in
-    rw (l .isv-set, l .is-found, l .wnr-clear, l .reads-page, counter-loaded (pageRead access (l .found .offset)) counter of-counter)
+    rw (by-cases regions core counter trap, l .isv-set, l .is-found, l .wnr-clear, l .reads-page, counter-loaded (pageRead access (l .found .offset)) counter of-counter)
 
 -- A step that does not depend on the counter, and leaves it.
 abbrev Steady : (ℕ → TrapStep) → Type 0
@@ -88,14 +89,14 @@ module _ (regions : List MemoryAccessRegion) (core : Core) (trap : TrapRegisters
   abbrev stepOf : MemoryAccessKind → RegionFound → ℕ → TrapStep
   stepOf kind found counter =
       let rt = readValue (readGpr core (access .«register_index»)) in
-      cond (notHandled kind found access rt counter) (injectDataAbort core counter trap) (handled kind access (offsetIn found) core counter)
+      cond (notHandled kind found access rt counter) (injectDataAbort core counter trap) (handled trap kind access (offsetIn found) core counter)
 
   -- a load through a read handler
   by-handler : isv (iss (trap .esr)) ≡ true → wnr (iss (trap .esr)) ≡ false → (m : MemoryAccessHandlerMatch)
       → findRegion regions (access .ipa) ≡ Match m → (handler : MemoryHandler) → m .region .handler .read ≡ handler
       → CounterLoad regions trap
       ⊎ Steady (λ counter. cond (isAbsent handler || deviceFault Read access (m .offset) 0 counter) (injectDataAbort core counter trap)
-      (handled Read access (m .offset) core counter))
+      (handled trap Read access (m .offset) core counter))
   unfolding loadsCounter
   by-handler v d m f Absent h = inr (inject-steady core trap)
   by-handler v d m f FilteredMmio h = go (loadsCounter (pageRead access (m .offset))) refl
@@ -126,7 +127,7 @@ module _ (regions : List MemoryAccessRegion) (core : Core) (trap : TrapRegisters
   by-direction v m f true d =
       let rt = readValue (readGpr core (access .«register_index»)) in
       inr (cond-steady (isAbsent (m .region .handler .write) || deviceFault Write access (m .offset) rt 0)
-      (λ counter. injectDataAbort core counter trap) (λ counter. handled Write access (m .offset) core counter)
+      (λ counter. injectDataAbort core counter trap) (λ counter. handled trap Write access (m .offset) core counter)
       (inject-steady core trap) (λ counter counter′. refl))
   by-direction v m f false d = by-handler v d m f (m .region .handler .read) refl
 
@@ -135,22 +136,23 @@ module _ (regions : List MemoryAccessRegion) (core : Core) (trap : TrapRegisters
   by-region v Nothing f = inr (inject-steady core trap)
   by-region v (Match m) f = by-direction v m f (wnr (iss (trap .esr))) refl
 
-  by-syndrome : (valid : Bool) → isv (iss (trap .esr)) ≡ valid
-      → CounterLoad regions trap
-      ⊎ Steady (λ counter.
+  -- the step of any syndrome
+  abbrev stepBySyndrome : Bool → ℕ → TrapStep
+  stepBySyndrome valid counter =
       let rt = readValue (readGpr core (access .«register_index»)) in
       let found = findRegion regions (access .ipa) in
       cond (not valid || notHandled (access .kind) found access rt counter) (injectDataAbort core counter trap)
-      (handled (access .kind) access (offsetIn found) core counter))
+      (handled trap (access .kind) access (offsetIn found) core counter)
+
+  by-syndrome : (valid : Bool) → isv (iss (trap .esr)) ≡ valid → CounterLoad regions trap ⊎ Steady (stepBySyndrome valid)
   by-syndrome false v = inr (inject-steady core trap)
   by-syndrome true v = by-region v (findRegion regions (access .ipa)) refl
 
   -- a data abort that does not load the counter word neither depends on the counter nor changes it
   pub counter-unused : (CounterLoad regions trap → ⊥) → Steady (λ counter. handleDataAbort regions core counter trap)
-  unfolding handleDataAbort injectionDue
+  unfolding injectionDue
   counter-unused none = go (by-syndrome (isv (iss (trap .esr))) refl)
     where
-      go : CounterLoad regions trap ⊎ Steady (λ counter. handleDataAbort regions core counter trap)
-          → Steady (λ counter. handleDataAbort regions core counter trap)
+      go : CounterLoad regions trap ⊎ Steady (stepBySyndrome (isv (iss (trap .esr)))) → Steady (λ counter. handleDataAbort regions core counter trap)
       go (inl l) = absurd (none l)
-      go (inr s) = s
+      go (inr s) = λ counter counter′. rw (by-cases regions core counter trap, by-cases regions core counter′ trap) (s counter counter′)

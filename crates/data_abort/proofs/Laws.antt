@@ -29,8 +29,8 @@ use Rattle.core_answers.specs.declared.TrapStep.{TrapStep}
 use Rattle.core_answers.specs.Answers.{trapNumber, isForwarded, refusedTrap}
 use Rattle.core_answers.specs.declared.CoreError.{CoreError}
 use Rattle.data_abort.specs.declared.TrapRegisters.{TrapRegisters}
-use Rattle.data_abort.specs.DataAbort.{iss, accessBy, offsetIn, pageRead, notHandled, injectionDue, wordRead, handled, withEc, injected, injectDataAbort, handleDataAbort}
-use Rattle.data_abort.specs.Outcome.{done, emulate, emulateDecoded, tryMemoryAccess, stepBy, emulateAccess}
+use Rattle.data_abort.specs.DataAbort.{iss, accessBy, offsetIn, pageRead, notHandled, injectionDue, wordRead, done, emulateAccess, tryMemoryAccess, withEc, injected, injectDataAbort, stepBy, handleDataAbort}
+use Rattle.data_abort.specs.declared.AccessOutcome.{AccessOutcome}
 use Rattle.data_abort.specs.declared.AccessOutcome.the-variants.{Unhandled}
 use native.Mathlib.Omega.{arith}
 
@@ -39,7 +39,11 @@ pub class-replaced : (esr class : ℕ) → class < 2 ^ 6
     → (bitsAt (withEc esr class) 26 6 ≡ class) × (lowBits 26 (withEc esr class) ≡ lowBits 26 esr) × (withEc esr class / 2 ^ 32 ≡ esr / 2 ^ 32)
 class-replaced esr class h = (replaced-field esr 26 6 class h, replaced-below esr 26 6 class h, replaced-above esr 26 6 class h)
 
--- The step goes by what comes of the access: nothing handles it exactly where an injection is due.
+-- the step of a handled access
+abbrev pub handled : TrapRegisters → MemoryAccessKind → MemoryAccess → ℕ → Core → ℕ → TrapStep
+handled trap kind access offset core counter = stepBy (done kind access offset counter) core counter trap
+
+-- A data abort goes by what comes of its access: nothing handles it exactly where an injection is due.
 module _ (regions : List MemoryAccessRegion) (core : Core) (counter : ℕ) (trap : TrapRegisters) where
   abbrev access : MemoryAccess
   access = accessBy trap
@@ -47,61 +51,52 @@ module _ (regions : List MemoryAccessRegion) (core : Core) (counter : ℕ) (trap
   abbrev found : RegionFound
   found = findRegion regions (access .ipa)
 
-  abbrev rt : ℕ
-  rt = readValue (readGpr core (access .«register_index»))
+  pub by-outcome : handleDataAbort regions core counter trap ≡ stepBy (tryMemoryAccess regions core counter trap) core counter trap
+  unfolding handleDataAbort
+  by-outcome = refl
 
-  abbrev injection : TrapStep
-  injection = injectDataAbort core counter trap
+  pub by-cases : handleDataAbort regions core counter trap
+      ≡ cond (injectionDue regions core counter trap) (injectDataAbort core counter trap) (handled trap (access .kind) access (offsetIn found) core counter)
+  unfolding handleDataAbort tryMemoryAccess
+  by-cases = cond-map (λ o. stepBy o core counter trap) (injectionDue regions core counter trap) _ _
 
-  handled-by : (kind : MemoryAccessKind)
-      → handled kind access (offsetIn found) core counter
-      ≡ stepBy (done kind access (offsetIn found) counter) core counter injection
-  handled-by Read = refl
-  handled-by Write = refl
-
-  access-by : (kind : MemoryAccessKind)
-      → cond (notHandled kind found access rt counter) injection (handled kind access (offsetIn found) core counter)
-      ≡ stepBy (emulate kind found access rt counter) core counter injection
-  unfolding emulate
-  access-by kind = go (notHandled kind found access rt counter)
-    where
-      go : (b : Bool) → cond b injection (handled kind access (offsetIn found) core counter)
-          ≡ stepBy (cond b Unhandled (done kind access (offsetIn found) counter)) core counter injection
-      go true = refl
-      go false = handled-by kind
-
-  pub by-outcome : handleDataAbort regions core counter trap
-      ≡ stepBy (tryMemoryAccess regions core counter trap) core counter injection
-  unfolding handleDataAbort injectionDue tryMemoryAccess decodeAccess
-  by-outcome = go (isv (iss (trap .esr)))
-    where
-      go : (valid : Bool)
-          → cond (not valid || notHandled (access .kind) found access rt counter) injection (handled (access .kind) access (offsetIn found) core counter)
-          ≡ stepBy (emulateDecoded (cond valid (Access access) NoSyndrome) regions core counter) core counter injection
-      go false = refl
-      go true = access-by (access .kind)
+  -- what comes of the access, by whether its syndrome is valid
+  abbrev triedBy : Bool → AccessOutcome
+  triedBy valid =
+      cond (not valid || notHandled (access .kind) found access (readValue (readGpr core (access .«register_index»))) counter) Unhandled
+      (done (access .kind) access (offsetIn found) counter)
 
   -- the access is tried as it is decoded: the region that has its address, and what its register holds, decide
   pub access-tried : (a : MemoryAccess) → decodeAccess (iss (trap .esr)) (trap .fipa) (trap .far) ≡ Access a
       → emulateAccess (findRegion regions (a .ipa)) a (readValue (readGpr core (a .«register_index»))) counter
       ≡ tryMemoryAccess regions core counter trap
-  unfolding tryMemoryAccess
-  access-tried a e = rw e
+  unfolding tryMemoryAccess injectionDue emulateAccess decodeAccess
+  access-tried a e = go (isv (iss (trap .esr))) e
+    where
+      go : (valid : Bool) → cond valid (Access access) NoSyndrome ≡ Access a
+          → emulateAccess (findRegion regions (a .ipa)) a (readValue (readGpr core (a .«register_index»))) counter ≡ triedBy valid
+      go true e = let same : a ≡ access = cc in rw same
+      go false e = let z : _≡_ {A = ℕ} 0 1 = cc in absurd (omega arith)
 
   pub nothing-tried : decodeAccess (iss (trap .esr)) (trap .fipa) (trap .far) ≡ NoSyndrome → Unhandled ≡ tryMemoryAccess regions core counter trap
-  unfolding tryMemoryAccess
-  nothing-tried e = rw e
+  unfolding tryMemoryAccess injectionDue decodeAccess
+  nothing-tried e = go (isv (iss (trap .esr))) e
+    where
+      go : (valid : Bool) → cond valid (Access access) NoSyndrome ≡ NoSyndrome → Unhandled ≡ triedBy valid
+      go true e = let z : _≡_ {A = ℕ} 0 1 = cc in absurd (omega arith)
+      go false e = refl
 
-  handled-answer : (kind : MemoryAccessKind) → handled kind access (offsetIn found) core counter .result .answer ≡ AccessHandled kind
+  handled-answer : (kind : MemoryAccessKind) → handled trap kind access (offsetIn found) core counter .result .answer ≡ AccessHandled kind
   handled-answer Read = refl
   handled-answer Write = refl
 
   -- each answer exactly in its case: the abort where an injection is due, 13 where VBAR is 0 then, else the access in its direction
   pub abort-answer : handleDataAbort regions core counter trap .result .answer
       ≡ cond (injectionDue regions core counter trap) (cond (eqb (trap .vbar) 0) (Refused NoGuestVector) AbortInjected) (AccessHandled (access .kind))
-  unfolding handleDataAbort injectDataAbort
+  unfolding injectDataAbort
   abort-answer =
-      cond-map (λ (s : TrapStep). s .result .answer) (injectionDue regions core counter trap) _ _
+      ap (λ (s : TrapStep). s .result .answer) by-cases
+      ∙ cond-map (λ (s : TrapStep). s .result .answer) (injectionDue regions core counter trap) _ _
       ∙ ap₂ (cond (injectionDue regions core counter trap)) (cond-map (λ (s : TrapStep). s .result .answer) (eqb (trap .vbar) 0) _ _)
       (handled-answer (access .kind))
 
@@ -120,16 +115,16 @@ module _ (regions : List MemoryAccessRegion) (core : Core) (counter : ℕ) (trap
   abbrev Kept : TrapStep → Type 0
   Kept step = (trapNumber (step .result .answer) ≡ 0 → ⊥) → (error : CoreError) × (step ≡ refusedTrap error core counter)
 
-  handled-accepted : (kind : MemoryAccessKind) (access : MemoryAccess) (offset : ℕ) → Kept (handled kind access offset core counter)
+  handled-accepted : (kind : MemoryAccessKind) (access : MemoryAccess) (offset : ℕ) → Kept (handled trap kind access offset core counter)
   handled-accepted Read access offset h = absurd (h refl)
   handled-accepted Write access offset h = absurd (h refl)
 
   pub abort-refused : Kept (handleDataAbort regions core counter trap)
-  unfolding handleDataAbort injectDataAbort
+  unfolding injectDataAbort
   abort-refused =
-      cond-all Kept (injectionDue regions core counter trap) _ _
+      rw (by-cases regions core counter trap) (cond-all Kept (injectionDue regions core counter trap) _ _
       (cond-all Kept (eqb (trap .vbar) 0) _ _ (λ h. (NoGuestVector, refl)) (λ h. absurd (h refl)))
-      (handled-accepted (accessBy trap .kind) (accessBy trap) _)
+      (handled-accepted (accessBy trap .kind) (accessBy trap) _))
 
 -- What holds of the core and the counter as they were, after a handled load, after a handled store and after an injection, holds after a
 -- data abort.
@@ -140,18 +135,20 @@ module _ (P : Core → ℕ → Type 0) (core : Core) (counter : ℕ) (same : P c
   abbrev After : TrapStep → Type 0
   After step = P (step .core) (step .counter)
 
-  after-handled : (kind : MemoryAccessKind) (access : MemoryAccess) (offset : ℕ) → After (handled kind access offset core counter)
+  after-handled : (trap : TrapRegisters) (kind : MemoryAccessKind) (access : MemoryAccess) (offset : ℕ)
+      → After (handled trap kind access offset core counter)
   unfolding readFilteredMmio
-  after-handled Read access offset =
+  after-handled trap Read access offset =
       load access (wordRead (readFilteredMmio (pageRead access offset) counter .result)) (loadsCounter (pageRead access offset))
-  after-handled Write access offset = store
+  after-handled trap Write access offset = store
 
   pub abort-all : (regions : List MemoryAccessRegion) (trap : TrapRegisters) → P (injected core trap) counter
       → After (handleDataAbort regions core counter trap)
-  unfolding handleDataAbort injectDataAbort
+  unfolding injectDataAbort
   abort-all regions trap injection =
-      cond-all After (injectionDue regions core counter trap) _ _ (cond-all After (eqb (trap .vbar) 0) _ _ same injection)
-      (after-handled (accessBy trap .kind) (accessBy trap) _)
+      rw (by-cases regions core counter trap)
+      (cond-all After (injectionDue regions core counter trap) _ _ (cond-all After (eqb (trap .vbar) 0) _ _ same injection)
+      (after-handled trap (accessBy trap .kind) (accessBy trap) _))
 
 -- a data abort leaves what the core waits for
 pub abort-wait : (regions : List MemoryAccessRegion) (core : Core) (counter : ℕ) (trap : TrapRegisters)

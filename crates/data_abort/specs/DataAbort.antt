@@ -29,6 +29,8 @@ use Rattle.core_answers.specs.declared.TrapStep.{TrapStep}
 use Rattle.core_answers.specs.Answers.{answered, refusedTrap}
 use Rattle.exceptions.specs.Registers.{advancePc, readGpr, readValue, withReturn, writeGpr}
 use Rattle.qemu.specs.FilteredMmio.{readFilteredMmio, writeFilteredMmio}
+use Rattle.data_abort.specs.declared.AccessOutcome.{AccessOutcome}
+use Rattle.data_abort.specs.declared.AccessOutcome.the-variants.{Loaded, Stored, Unhandled}
 use Rattle.data_abort.specs.declared.Injection.{Injection}
 use Rattle.data_abort.specs.declared.TrapRegisters.{TrapRegisters}
 
@@ -107,13 +109,28 @@ abbrev pub wordRead : MemoryReadResult → ℕ
 wordRead (read.Value word) = word
 wordRead read.Fault = 0
 
--- "A handled access writes Rt (loads) and ELR grows by 4 modulo 2^64"
-abbrev pub handled : MemoryAccessKind → MemoryAccess → ℕ → Core → ℕ → TrapStep
-handled Read access offset core counter =
+-- a handled access: what Rt takes of a load, and the counter then
+abbrev pub done : MemoryAccessKind → MemoryAccess → ℕ → ℕ → AccessOutcome
+done Read access offset counter =
     let got = readFilteredMmio (pageRead access offset) counter in
-    let value = extendReadResult access (wordRead (got .result)) in
-    answered (AccessHandled Read) (advancePc (writeGpr core (access .«register_index») value .core)) (got .counter)
-handled Write access offset core counter = answered (AccessHandled Write) (advancePc core) counter
+    Loaded (access .«register_index») (extendReadResult access (wordRead (got .result))) (got .counter)
+done Write access offset counter = Stored
+
+-- what comes of an access through a handler
+unfoldable pub through : MemoryAccessKind → MemoryHandler → MemoryAccess → ℕ → ℕ → ℕ → AccessOutcome
+through kind handler access offset rt counter =
+    cond (isAbsent handler || deviceFault kind access offset rt counter) Unhandled (done kind access offset counter)
+
+-- the same by the region found for it
+unfoldable pub emulateAccess : RegionFound → MemoryAccess → ℕ → ℕ → AccessOutcome
+emulateAccess found access rt counter =
+    cond (notHandled (access .kind) found access rt counter) Unhandled (done (access .kind) access (offsetIn found) counter)
+
+-- the same by the regions that are held and what the hardware says
+unfoldable pub tryMemoryAccess : List MemoryAccessRegion → Core → ℕ → TrapRegisters → AccessOutcome
+tryMemoryAccess regions core counter trap =
+    let access = accessBy trap in
+    cond (injectionDue regions core counter trap) Unhandled (done (access .kind) access (offsetIn (findRegion regions (access .ipa))) counter)
 
 -- a syndrome with another exception class, bits 31:26, and its other bits
 abbrev pub withEc : ℕ → ℕ → ℕ
@@ -139,9 +156,13 @@ unfoldable pub injectDataAbort : Core → ℕ → TrapRegisters → TrapStep
 injectDataAbort core counter trap =
     cond (eqb (trap .vbar) 0) (refusedTrap NoGuestVector core counter) (answered AbortInjected (injected core trap) counter)
 
--- the data abort of one core, by the regions that are held: the abort where an injection is due, else the access
+-- "A handled access writes Rt (loads) and ELR grows by 4 modulo 2^64"; else the abort is injected
+abbrev pub stepBy : AccessOutcome → Core → ℕ → TrapRegisters → TrapStep
+stepBy (Loaded register value after) core counter trap =
+    answered (AccessHandled Read) (advancePc (writeGpr core register value .core)) after
+stepBy Stored core counter trap = answered (AccessHandled Write) (advancePc core) counter
+stepBy Unhandled core counter trap = injectDataAbort core counter trap
+
+-- the data abort of one core, by the regions that are held
 unfoldable pub handleDataAbort : List MemoryAccessRegion → Core → ℕ → TrapRegisters → TrapStep
-handleDataAbort regions core counter trap =
-    let access = accessBy trap in
-    cond (injectionDue regions core counter trap) (injectDataAbort core counter trap)
-    (handled (access .kind) access (offsetIn (findRegion regions (access .ipa))) core counter)
+handleDataAbort regions core counter trap = stepBy (tryMemoryAccess regions core counter trap) core counter trap

@@ -1,4 +1,3 @@
 -- What the contracts of `data_abort` cite, and when an access is of the counter word.
 pub mod DataAbort
-pub mod Outcome
 pub mod CounterLoad

@@ -24,6 +24,7 @@ use lent_cores::ELR_EL1_WORD;
 use lent_cores::ELR_WORD;
 use lent_cores::ESR_EL1_WORD;
 use lent_cores::FAR_EL1_WORD;
+use lent_cores::LAST_CORE;
 use lent_cores::REGISTERS_SIZE;
 use lent_cores::SPSR_EL1_WORD;
 use lent_cores::SPSR_WORD;
@@ -194,8 +195,6 @@ pub fn put_return(cores: &mut [u8; CORES_SIZE], core: u64, elr: u64, spsr: u64, 
         lent_words::put_word(cores, at + ESR_EL1_WORD, el1.esr);
     }
 }
-
-const LAST_CORE: u64 = 7;
 
 // Puts in a core's registers as the hardware saved them: refusals 10, 11.
 pub fn save(cores: &mut [u8; CORES_SIZE], core: u64, registers: &[u8; REGISTERS_SIZE]) -> u64

@@ -12,19 +12,7 @@ use Rattle.exceptions.specs.declared.Wait.the-variants.{Nothing, Call}
 use Rattle.exceptions.specs.declared.Core.{Core}
 use Rattle.exceptions.specs.declared.FaultRegisters.{FaultRegisters}
 use Rattle.exceptions.specs.Registers.{coreOf}
-
--- the lengths of the lent buffers, in bytes: the cores, the registers of a save, the values of a reply, the result of a trap
-abbrev pub coresSize : ℕ
-coresSize = 2440
-
-abbrev pub registersSize : ℕ
-registersSize = 264
-
-abbrev pub valuesSize : ℕ
-valuesSize = 144
-
-abbrev pub trapResultSize : ℕ
-trapResultSize = 152
+use Rattle.core_answers.specs.Answers.{forwardedLength}
 
 -- what a core waits for, by its code; an unknown code is nothing
 abbrev pub waitCodes : List Wait
@@ -67,7 +55,17 @@ coreLength = 38
 
 -- the eight cores stand from word 0 on, the counter of the filtered MMIO page after them
 abbrev pub counterWord : ℕ
-counterWord = 304
+counterWord = 8 * coreLength
+
+-- the lengths of the lent buffers, in bytes: the cores with the counter, the registers of a save, the result of a trap
+abbrev pub coresSize : ℕ
+coresSize = 8 * (counterWord + 1)
+
+abbrev pub registersSize : ℕ
+registersSize = 8 * (spsrWord + 1)
+
+abbrev pub trapResultSize : ℕ
+trapResultSize = 8 * (forwardedLength + 1)
 
 unfoldable pub coreAt : List ℕ → ℕ → Core
 coreAt cores i =

@@ -13,15 +13,6 @@ use exceptions::FaultRegisters;
 use exceptions::Recipient;
 use exceptions::Wait;
 
-// The lengths of the lent buffers, in bytes.
-pub const CORES_SIZE: usize = 2440;
-
-pub const REGISTERS_SIZE: usize = 264;
-
-pub const VALUES_SIZE: usize = 144;
-
-pub const TRAP_RESULT_SIZE: usize = 152;
-
 // The words of a core: x0 to x30, then ELR, SPSR, ELR_EL1, SPSR_EL1, FAR_EL1, ESR_EL1 and the code of what it waits for.
 pub const ELR_WORD: usize = 31;
 
@@ -39,8 +30,18 @@ pub const WAIT_WORD: usize = 37;
 
 pub const CORE_WORDS: usize = 38;
 
+// "number above 7" names no core.
+pub const LAST_CORE: u64 = 7;
+
 // The counter stands after the eight cores.
-const COUNTER_WORD: usize = 304;
+const COUNTER_WORD: usize = 8 * CORE_WORDS;
+
+// The lengths of the lent buffers, in bytes: the cores with the counter, the registers of a save, the result of a trap.
+pub const CORES_SIZE: usize = 8 * (COUNTER_WORD + 1);
+
+pub const REGISTERS_SIZE: usize = 8 * (SPSR_WORD + 1);
+
+pub const TRAP_RESULT_SIZE: usize = 8 * (FORWARDED_VALUES + 1);
 
 // How many codes there are of what a core waits for.
 pub const WAIT_CODES: u64 = 5;

@@ -10,10 +10,6 @@ use Rattle.simple_map.specs.declared.Place.{Place}
 use Rattle.simple_map.specs.declared.SimpleMap.{SimpleMap}
 use Rattle.simple_map.specs.Map.{freePlace, taken}
 
--- the length of the map's buffer, in bytes
-abbrev pub mapSize : ℕ
-mapSize = 256
-
 -- the words of a place of the suspend map: 1 where it is taken, then key, entry point and context id; the eight stand from word 0 on
 abbrev pub keyWord : ℕ
 keyWord = 1
@@ -26,6 +22,10 @@ contextIdWord = 3
 
 abbrev pub placeLength : ℕ
 placeLength = 4
+
+-- the length of the map's buffer, in bytes: eight places
+abbrev pub mapSize : ℕ
+mapSize = 8 * (8 * placeLength)
 
 unfoldable pub placeAt : List ℕ → ℕ → Place
 placeAt map k =

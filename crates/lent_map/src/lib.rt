@@ -18,9 +18,6 @@ use simple_map::OptionItem;
 use simple_map::Place;
 use simple_map::SuspendCoreData;
 
-// The length of the map's buffer, in bytes.
-pub const MAP_SIZE: usize = 256;
-
 // The words of a place: 1 where it is taken, then key, entry point and context id.
 const KEY_WORD: usize = 1;
 
@@ -29,6 +26,9 @@ const ENTRY_POINT_WORD: usize = 2;
 const CONTEXT_ID_WORD: usize = 3;
 
 const PLACE_WORDS: usize = 4;
+
+// The length of the map's buffer, in bytes: eight places.
+pub const MAP_SIZE: usize = 8 * (8 * PLACE_WORDS);
 
 // Whether a place holds what is sought: an entry with the key, and where `taken` is false none at all.
 fn place_fits(map: &[u8; MAP_SIZE], place: usize, taken: bool, key: u64) -> bool

@@ -19,9 +19,12 @@ use hvc_response::REPLY_VALUES;
 use lent_cores::CORE_WORDS;
 use lent_cores::CORES_SIZE;
 use lent_cores::ELR_WORD;
-use lent_cores::VALUES_SIZE;
+use lent_cores::LAST_CORE;
 use lent_cores::WAIT_CODES;
 use lent_cores::WAIT_WORD;
+
+// The length of the buffer of a reply's values, in bytes.
+pub const VALUES_SIZE: usize = 8 * REPLY_VALUES;
 
 // The values of a reply from one on, and zeros past the last.
 fn get_values(values: &[u8; VALUES_SIZE], from: usize) -> [u64; REPLY_VALUES]
@@ -111,8 +114,6 @@ fn put_reply(
     lent_words::put_word(cores, at + ELR_WORD, elr);
     lent_words::put_word(cores, at + WAIT_WORD, code);
 }
-
-const LAST_CORE: u64 = 7;
 
 // Gives a core the answer that it waits for: refusals 10, 14, 15.
 pub fn reply(

@@ -15,7 +15,7 @@ use Rattle.simple_map.specs.declared.Insertion.the-variants.{Accepted, Capacity
 use Rattle.simple_map.specs.declared.Inserted.{Inserted}
 use Rattle.simple_map.specs.declared.Place.{Place}
 use Rattle.simple_map.specs.Map.{freePlace, taken, isFree, holdsKey, hasRoom, without, insertItem, insertNumber, removeItem}
-use Rattle.lent_map.specs.Layout.{placeAt, mapAt, withPlaces}
+use Rattle.lent_map.specs.Layout.{mapSize, placeAt, mapAt, withPlaces}
 use Rattle.lent_map.proofs.Records.{ItemFits}
 use Rattle.lent_map.proofs.States.{places-back}
 use Rattle.ritm.specs.Interface.{unlessRefused, insertCall, removeCall}
@@ -34,7 +34,7 @@ place-fits b h k =
     (word-fits b (4 * k + 1) h, (word-fits b (4 * k + 2) h, (word-fits b (4 * k + 3) h, tt)))
     tt
 
-module _ (b : List ℕ) (key : ℕ) (lent : Lent 256 b) where
+module _ (b : List ℕ) (key : ℕ) (lent : Lent mapSize b) where
   all-fit : Every PlaceFits (mapAt b .items)
   unfolding mapAt
   all-fit = every-each PlaceFits (placeAt b) (place-fits b (lent .bytes)) 0 8

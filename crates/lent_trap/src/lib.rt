@@ -9,8 +9,7 @@ ghost use Rattle.lent_policy.specs.Layout.{policyAt};
 ghost use Rattle.lent_cores.specs.Layout.{heldCore, counterAt, withCounter};
 ghost use Rattle.stage2.specs.Policy.{regionsHeld};
 ghost use Rattle.core_answers.specs.Answers.{trapNumber, withoutValues, resultWords};
-ghost use Rattle.data_abort.specs.DataAbort.{injectDataAbort, handleDataAbort};
-ghost use Rattle.data_abort.specs.Outcome.{tryMemoryAccess};
+ghost use Rattle.data_abort.specs.DataAbort.{tryMemoryAccess, injectDataAbort, handleDataAbort};
 ghost use Rattle.forwarded_call.specs.ForwardedCall.{forwardCall};
 ghost use Rattle.hypervisor.specs.Trap.{exceptionClass, forwarded, byClass};
 ghost use Rattle.lent_trap.specs.LentTrap.{trapCall, trappedOne};
@@ -22,6 +21,7 @@ use exceptions::Conduit;
 use exceptions::Wait;
 use hypervisor::ExceptionClass;
 use lent_cores::CORES_SIZE;
+use lent_cores::LAST_CORE;
 use lent_cores::TRAP_RESULT_SIZE;
 use lent_policy::POLICY_SIZE;
 use memory_access::Decoded;
@@ -163,8 +163,6 @@ fn dispatch(
         }
     }
 }
-
-const LAST_CORE: u64 = 7;
 
 // Takes a core's trap: refusals 10 to 13. The result is the answer's kind and the values of a forwarded call.
 pub fn trap(

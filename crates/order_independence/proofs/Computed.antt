@@ -15,7 +15,7 @@ use Rattle.simple_map.specs.Map.{isFree, holdsKey, valueOf, emptyMap, without, 
 use Rattle.exceptions.specs.Registers.{freshCore, withRegisters, advancePc, writeGpr}
 use Rattle.qemu.specs.FilteredMmio.{pageWord, loadsCounter, counterAfter, readFilteredMmio}
 use Rattle.data_abort.specs.declared.TrapRegisters.{TrapRegisters}
-use Rattle.data_abort.specs.DataAbort.{injectionDue, injected, injectDataAbort, handleDataAbort}
+use Rattle.data_abort.specs.DataAbort.{injectionDue, tryMemoryAccess, injected, injectDataAbort, handleDataAbort}
 use Rattle.forwarded_call.specs.ForwardedCall.{recipientOf, withWait, forwardCall}
 use Rattle.hypervisor.specs.Trap.{exceptionClass, byClass, handleSyncLower}
 use Rattle.hypervisor.specs.Cores.{freshCores, saveCore, onCore, saveOn, trapOn}
@@ -82,6 +82,6 @@ unfolding
     held bitsAt bitAt faultIpa decodeAccess lowBits signExtend loaded atRegisterWidth extendReadResult validateRange hasByte
     sharesByte overlaps findRegion insertRegion registerAnswer freshPolicy handleAnswerFor addRegion handleRange
     isFree holdsKey valueOf emptyMap without getItem hasRoom removeItem insertItem freshState freshCore withRegisters advancePc writeGpr pageWord
-    loadsCounter counterAfter readFilteredMmio injectionDue withBits injected injectDataAbort handleDataAbort
+    loadsCounter counterAfter readFilteredMmio injectionDue tryMemoryAccess withBits injected injectDataAbort handleDataAbort
     recipientOf withWait forwardCall exceptionClass byClass handleSyncLower freshCores saveCore onCore saveOn trapOn
 computed = (refl, refl, refl, refl, refl, refl, refl)

@@ -17,7 +17,7 @@ use Rattle.simple_map.specs.Map.{isFree, holdsKey, valueOf, emptyMap, without, 
 use Rattle.exceptions.specs.Registers.{freshCore, withRegisters, advancePc, writeGpr, coreOf}
 use Rattle.qemu.specs.FilteredMmio.{pageWord, loadsCounter, counterAfter, readFilteredMmio}
 use Rattle.data_abort.specs.declared.TrapRegisters.{TrapRegisters}
-use Rattle.data_abort.specs.DataAbort.{injectionDue, handleDataAbort}
+use Rattle.data_abort.specs.DataAbort.{injectionDue, tryMemoryAccess, handleDataAbort}
 use Rattle.hypervisor.specs.Trap.{exceptionClass, byClass, handleSyncLower}
 use Rattle.hypervisor.specs.Cores.{freshCores, trapOn}
 use Rattle.order_independence.specs.Calls.{State, freshState, by-value, CoreCall, trap, write-gpr, insert, Answer, inserted, afterBuilds, afterSteps, answersTo}
@@ -39,7 +39,7 @@ unfolding
     held bitsAt bitAt faultIpa decodeAccess lowBits signExtend loaded atRegisterWidth extendReadResult validateRange hasByte
     sharesByte overlaps findRegion insertRegion registerAnswer freshPolicy allowAnswerFor addAllowed allowRange
     handleAnswerFor addRegion handleRange freshState freshCore withRegisters advancePc writeGpr pageWord loadsCounter counterAfter
-    readFilteredMmio injectionDue handleDataAbort exceptionClass byClass handleSyncLower freshCores trapOn
+    readFilteredMmio injectionDue tryMemoryAccess handleDataAbort exceptionClass byClass handleSyncLower freshCores trapOn
 two-loaders key same =
     let e : _≡_ {A = ℕ} 0 1 = ap (λ cores. getD (coreOf cores 0 .x) 5 9) (same .all-cores) in
     omega arith

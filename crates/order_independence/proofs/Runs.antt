@@ -13,7 +13,7 @@ use Rattle.simple_map.proofs.Keys.{empty-holds, insert-accepted}
 use Rattle.hypervisor.specs.Cores.{freshCores}
 use Rattle.hypervisor.proofs.Refusals.{save-number, reply-number, trap-number}
 use Rattle.order_independence.specs.Calls.{State, freshState, CoreCall, save, trap, reply, write-gpr, insert, get, remove, core-call, Answer, answerNumber, answerValues, AllZero, coreCall, afterBuilds, afterSteps, answersTo}
-use Rattle.order_independence.specs.Steps.{isAbove, isInsert, Named, AllNamed}
+use Rattle.order_independence.specs.Steps.{isAbove, Named, AllNamed}
 use Rattle.order_independence.specs.OrderIndependence.{AboveAnswer10, Same, Sound}
 use Rattle.order_independence.proofs.Calls.{refusal-zero}
 use Rattle.order_independence.proofs.CoreCalls.{core-policy, sound-next}
@@ -96,6 +96,16 @@ all-above-10 steps s =
     let ten = above-is-10 t c e in
     (ten, refusal-zero t (core-call c) (λ z. omega arith)))
     steps s tt (λ c m. tt)
+
+-- an insert
+abbrev pub isInsert : CoreCall → Bool
+isInsert (save core x elr spsr) = false
+isInsert (trap core registers) = false
+isInsert (reply core result) = false
+isInsert (write-gpr form core index value) = false
+isInsert (insert k value) = true
+isInsert (get k) = false
+isInsert (remove k) = false
 
 -- no insert finds the suspend map full: 16 "key not held, all 8 places taken"
 insert-is-0 : (key : ℕ → ℕ) → KeysDiffer key → (s : State) (c : CoreCall) → Sound key s → Named key c → isInsert c ≡ true

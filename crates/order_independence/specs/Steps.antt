@@ -2,7 +2,7 @@
 -- Assumes nothing.
 use Prim.Native.Nat.{ℕ, _<_}
 use mathlib.Core.Path.{_≡_}
-use mathlib.Core.Bool.{Bool, true, false}
+use mathlib.Core.Bool.{Bool, false}
 use mathlib.Core.List.{List, [], _∷_, List·Memᴰ}
 use mathlib.Core.Logic.{_⊎_}
 use lib.Dec.{eqb, ltb}
@@ -28,16 +28,6 @@ isAbove (write-gpr form core index value) = false
 isAbove (insert k value) = false
 isAbove (get k) = false
 isAbove (remove k) = false
-
--- an insert
-abbrev pub isInsert : CoreCall → Bool
-isInsert (save core x elr spsr) = false
-isInsert (trap core registers) = false
-isInsert (reply core result) = false
-isInsert (write-gpr form core index value) = false
-isInsert (insert k value) = true
-isInsert (get k) = false
-isInsert (remove k) = false
 
 -- the key of one of the eight cores
 abbrev pub IsKey : (ℕ → ℕ) → ℕ → Type 0

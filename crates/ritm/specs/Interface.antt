@@ -11,11 +11,12 @@ use Rattle.lent_words.specs.Words.{bytesOf}
 pub use Rattle.lent_words.specs.Words.{Left, Leaves, unlessRefused}
 unfoldable pub use Rattle.lent_core.specs.Calls.{saveCall, readCall, writeCall}
 unfoldable pub use Rattle.lent_trap.specs.LentTrap.{trapCall}
+use Rattle.lent_reply.specs.LentReply.{valuesSize}
 unfoldable pub use Rattle.lent_reply.specs.LentReply.{replyCall}
 unfoldable pub use Rattle.lent_map.specs.Calls.{insertCall, getCall, removeCall}
 unfoldable pub use Rattle.lent_policy.specs.Calls.{allowCall, handleCall, findCall}
 use Rattle.lent_policy.specs.Layout.{policySize}
-use Rattle.lent_cores.specs.Layout.{coresSize, registersSize, valuesSize, trapResultSize}
+use Rattle.lent_cores.specs.Layout.{coresSize, registersSize, trapResultSize}
 use Rattle.lent_map.specs.Layout.{mapSize}
 
 -- the four numbers of `ritm_trap`

@@ -1,4 +1,4 @@
-use Rattle.data_abort.specs.Outcome.{through, emulate}
+use Rattle.data_abort.specs.DataAbort.{through, emulateAccess}
 use borrow.Author.Needs.{needs}
 use Rattle.data_abort.proofs.access_in.Statement.{statement}
 use Rattle.data_abort.proofs.access_in.Tie as tie
@@ -16,11 +16,11 @@ write-through-requires : tie.Need-write-through-requires
 write-through-requires c κs = search needs
 
 returns : tie.Need-returns
-unfolding through emulate
+unfolding through emulateAccess
 returns c = rw (c .read-through .ensures, c .before .enum-told .given .1)
 
 returns-2 : tie.Need-returns-2
-unfolding through emulate
+unfolding through emulateAccess
 returns-2 c = rw (c .write-through .ensures, c .before .enum-told2 .given .1)
 
 pub access-in-spec : {M : Type 1} → statement M

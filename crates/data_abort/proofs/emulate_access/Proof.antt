@@ -1,4 +1,4 @@
-use Rattle.data_abort.specs.Outcome.{emulate}
+use Rattle.data_abort.specs.DataAbort.{emulateAccess}
 use borrow.Author.Needs.{needs}
 use Rattle.data_abort.proofs.emulate_access.Statement.{statement}
 use Rattle.data_abort.proofs.emulate_access.Tie as tie
@@ -16,7 +16,7 @@ returns : tie.Need-returns
 returns c = rw (c .access-in .ensures, c .before .before .found .given .1)
 
 returns-2 : tie.Need-returns-2
-unfolding emulate
+unfolding emulateAccess
 returns-2 c = rw (c .enum-told .given .1)
 
 pub emulate-access-spec : {M : Type 1} → statement M

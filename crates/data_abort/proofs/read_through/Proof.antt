@@ -1,4 +1,4 @@
-use Rattle.data_abort.specs.Outcome.{through}
+use Rattle.data_abort.specs.DataAbort.{through}
 use borrow.Author.Needs.{needs}
 use Rattle.data_abort.proofs.read_through.Statement.{statement}
 use Rattle.data_abort.proofs.read_through.Tie as tie

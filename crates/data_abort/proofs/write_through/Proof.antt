@@ -1,7 +1,7 @@
 use mathlib.Core.Path.{_≡_}
 use Rattle.qemu.specs.FilteredMmio.{writeFilteredMmio}
 use Rattle.data_abort.specs.DataAbort.{pageWrite}
-use Rattle.data_abort.specs.Outcome.{through}
+use Rattle.data_abort.specs.DataAbort.{through}
 use borrow.Author.Needs.{needs}
 use Rattle.data_abort.proofs.write_through.Statement.{statement}
 use Rattle.data_abort.proofs.write_through.Tie as tie
