@@ -4,9 +4,9 @@ use mathlib.Core.Bool.{true}
 use Rattle.lists.specs.Lists.{held}
 use Rattle.memory_access.specs.Syndrome.{faultIpa, decodeAccess}
 use Rattle.memory_access.specs.Transfer.{signExtend, loaded, atRegisterWidth, extendReadResult}
-use Rattle.stage2_range.specs.Ranges.{validateRange, hasByte, sharesByte, overlaps}
-use Rattle.stage2_range.specs.Registry.{findRegion, insertRegion, registerAnswer}
-use Rattle.stage2.specs.Policy.{freshPolicy, allowAnswerFor, addAllowed, allowRange, handleAnswerFor, addRegion, handleRange}
+use Rattle.stage2_range.specs.Ranges.{hasByte, sharesByte, overlaps}
+use Rattle.stage2_range.specs.Registry.{findRegion, insertRegion}
+use Rattle.stage2.specs.Policy.{freshPolicy, allowAnswer, addAllowed, allowRange, handleAnswer, addRegion, handleRange}
 use Rattle.exceptions.specs.Registers.{freshCore, withRegisters, advancePc}
 use Rattle.hvc_response.specs.Response.{response, withFirst, resultOfKind}
 use Rattle.data_abort.specs.DataAbort.{injectionDue, tryMemoryAccess, injected, injectDataAbort, handleDataAbort}
@@ -19,9 +19,9 @@ use Rattle.bits.specs.Bits.{bitAt, bitsAt, lowBits, withBits}
 
 pub bench-table-holds : holds benchTable ≡ true
 unfolding
-    held bitsAt bitAt faultIpa decodeAccess lowBits signExtend loaded atRegisterWidth extendReadResult validateRange hasByte
-    sharesByte overlaps findRegion insertRegion registerAnswer freshPolicy allowAnswerFor addAllowed allowRange
-    handleAnswerFor addRegion handleRange freshCore withRegisters response withFirst resultOfKind advancePc injectionDue withBits
+    held bitsAt bitAt faultIpa decodeAccess lowBits signExtend loaded atRegisterWidth extendReadResult hasByte
+    sharesByte overlaps findRegion insertRegion freshPolicy allowAnswer addAllowed allowRange
+    handleAnswer addRegion handleRange freshCore withRegisters response withFirst resultOfKind advancePc injectionDue withBits
     tryMemoryAccess injected injectDataAbort handleDataAbort exceptionClass recipientOf withWait forwardCall byClass handleSyncLower
     freshCores saveCore mayReply resumed decideReply replyCore onCore saveOn replyOn trapOn oneRegion savedCores trapped replied
 bench-table-holds = refl

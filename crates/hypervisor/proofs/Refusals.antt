@@ -22,7 +22,7 @@ use Rattle.core_answers.specs.declared.CoreStep.{CoreStep}
 use Rattle.hypervisor.specs.declared.CoresStep.{CoresStep}
 use Rattle.core_answers.specs.declared.TrapStep.{TrapStep}
 use Rattle.hypervisor.specs.declared.Trapped.{Trapped}
-use Rattle.core_answers.specs.Answers.{coreNumber, trapNumber}
+use Rattle.core_answers.specs.Answers.{coreErrorNumber, coreNumber, trapNumber}
 use Rattle.hypervisor.specs.Trap.{ec, classOf, exceptionClass, byClass, handleSyncLower}
 use Rattle.hypervisor.specs.Cores.{saveCore, onCore, saveOn, replyOn, trapOn, saveCases, replyCases, trapCases}
 use Rattle.hypervisor.proofs.Laws.{by-class}
@@ -35,7 +35,7 @@ on-core-number cores i step = cond-map (λ (s : CoresStep). coreNumber (s .answe
 
 -- "save 10, 11"
 pub save-number : (cores : List Core) (i : ℕ) (x : List ℕ) (elr spsr : ℕ)
-    → coreNumber (saveOn cores i x elr spsr .answer) ≡ firstMet (saveCases cores i)
+    → coreNumber (saveOn cores i x elr spsr .answer) ≡ firstMet coreErrorNumber 0 (saveCases cores i)
 unfolding saveOn saveCore
 save-number cores i x elr spsr =
     on-core-number cores i _
@@ -43,7 +43,7 @@ save-number cores i x elr spsr =
 
 -- "reply 10, 14, 15"
 pub reply-number : (cores : List Core) (i : ℕ) (reply : HvcReply)
-    → coreNumber (replyOn cores i reply .answer) ≡ firstMet (replyCases cores i (reply .kind))
+    → coreNumber (replyOn cores i reply .answer) ≡ firstMet coreErrorNumber 0 (replyCases cores i (reply .kind))
 unfolding replyOn
 reply-number cores i reply =
     let core = coreOf cores i in
@@ -76,7 +76,7 @@ module _ (regions : List MemoryAccessRegion) (core : Core) (counter : ℕ) (trap
 
 -- "trap 10 to 13"
 pub trap-number : (policy : Policy) (cores : List Core) (counter i : ℕ) (trap : TrapRegisters)
-    → trapNumber (trapOn policy cores counter i trap .result .answer) ≡ firstMet (trapCases policy cores counter i trap)
+    → trapNumber (trapOn policy cores counter i trap .result .answer) ≡ firstMet coreErrorNumber 0 (trapCases policy cores counter i trap)
 unfolding trapOn
 trap-number policy cores counter i trap =
     let core = coreOf cores i in

@@ -14,7 +14,8 @@ use Rattle.exceptions.specs.Registers.{freshCore, coreOf}
 use Rattle.stage2.specs.declared.Policy.{Policy}
 use Rattle.stage2.specs.Policy.{regionsHeld}
 use Rattle.core_answers.specs.declared.CoreAnswer.the-variants.{Accepted, Refused}
-use Rattle.core_answers.specs.declared.CoreError.the-variants.{NoSuchCore, CoreWaiting}
+use Rattle.core_answers.specs.declared.CoreError.{CoreError}
+use Rattle.core_answers.specs.declared.CoreError.the-variants.{NoSuchCore, CoreWaiting, UnexpectedExceptionClass, NoGuestVector, NothingWaiting, UnknownReplyKind}
 use Rattle.core_answers.specs.declared.CoreStep.{CoreStep}
 use Rattle.hypervisor.specs.declared.CoresStep.{CoresStep}
 use Rattle.core_answers.specs.declared.TrapAnswer.the-variants as trap-answer
@@ -69,26 +70,26 @@ trapOn policy cores counter i trap =
     (record { result = withoutValues (trap-answer.Refused NoSuchCore); policy = policy; cores = cores; counter = counter })
     (trappedBy (handleSyncLower (regionsHeld policy) (coreOf cores i) counter trap) policy cores i)
 
--- the lines of the table that `save` meets, in its order
-abbrev pub saveCases : List Core → ℕ → List Case
-saveCases cores i = case 10 (ltb 7 i) ∷ case 11 (waits (coreOf cores i .wait)) ∷ []
+-- the lines of the table that `save` meets: "save 10, 11"
+abbrev pub saveCases : List Core → ℕ → List (Case CoreError)
+saveCases cores i = case NoSuchCore (ltb 7 i) ∷ case CoreWaiting (waits (coreOf cores i .wait)) ∷ []
 
--- the lines of the table that `reply` meets, in its order
-abbrev pub replyCases : List Core → ℕ → ℕ → List Case
+-- the lines of the table that `reply` meets: "reply 10, 14, 15"
+abbrev pub replyCases : List Core → ℕ → ℕ → List (Case CoreError)
 replyCases cores i kind =
     let wait = coreOf cores i .wait in
-    case 10 (ltb 7 i)
-    ∷ case 14 (not (waits wait))
-    ∷ case 15 (ltb 4 kind || (waitsForFirmware wait && not (eqb kind 1 || eqb kind 4)))
+    case NoSuchCore (ltb 7 i)
+    ∷ case NothingWaiting (not (waits wait))
+    ∷ case UnknownReplyKind (ltb 4 kind || (waitsForFirmware wait && not (eqb kind 1 || eqb kind 4)))
     ∷ []
 
--- the lines of the table that `trap` meets, in its order
-abbrev pub trapCases : Policy → List Core → ℕ → ℕ → TrapRegisters → List Case
+-- the lines of the table that `trap` meets: "trap 10 to 13"
+abbrev pub trapCases : Policy → List Core → ℕ → ℕ → TrapRegisters → List (Case CoreError)
 trapCases policy cores counter i trap =
     let core = coreOf cores i in
     let class = ec (trap .esr) in
-    case 10 (ltb 7 i)
-    ∷ case 11 (waits (core .wait))
-    ∷ case 12 (not (eqb class 0x16 || eqb class 0x17 || eqb class 0x24))
-    ∷ case 13 (eqb class 0x24 && (injectionDue (regionsHeld policy) core counter trap && eqb (trap .vbar) 0))
+    case NoSuchCore (ltb 7 i)
+    ∷ case CoreWaiting (waits (core .wait))
+    ∷ case UnexpectedExceptionClass (not (eqb class 0x16 || eqb class 0x17 || eqb class 0x24))
+    ∷ case NoGuestVector (eqb class 0x24 && (injectionDue (regionsHeld policy) core counter trap && eqb (trap .vbar) 0))
     ∷ []

@@ -26,7 +26,7 @@ abbrev pub done : List ℕ → Left
 done b = record { number = 0; state = b; result = [] }
 
 -- The answer of `allow_range`.
-module _ (b : List ℕ) (base size attributes : ℕ) {answer : Stage2Result} (told : answer ≡ allowAnswer (policyAt b) base size attributes) where
+module _ (b : List ℕ) (base size attributes : ℕ) {answer : Stage2Result} (told : answer ≡ allowAnswer (policyAt b) base size) where
   pub allow-refused : (e : Stage2ConfigError) → answer ≡ Refused e → allowCall b base size attributes ≡ refused b e
   unfolding allowCall allowRange
   allow-refused e h = rw (← told, h, ne-eqb (errorNumber e) 0 (error-not-zero e))

@@ -6,9 +6,9 @@ ghost use lib.Dec.{leb};
 ghost use lib.ListN.{set};
 ghost use Rattle.lists.specs.Lists.{firstIndex, insertAt};
 ghost use Rattle.lent_words.specs.Words.{wordAt, each, storeEach, Leaves};
-ghost use Rattle.stage2_range.specs.Ranges.{hasByte, sharesByte, overlapsAllowed};
-ghost use Rattle.stage2_range.specs.Registry.{hasAddress, overlapsRegions, findRegion, insertRegion};
-ghost use Rattle.stage2.specs.Policy.{allowedHeld, regionsHeld, allowAnswerFor, allowAnswer, handleAnswerFor, handleAnswer};
+ghost use Rattle.stage2_range.specs.Ranges.{answerOf, hasByte, sharesByte, rangeBytes, overlapsAllowed};
+ghost use Rattle.stage2_range.specs.Registry.{regionBytes, hasAddress, overlapsRegions, findRegion, insertRegion};
+ghost use Rattle.stage2.specs.Policy.{allowedHeld, regionsHeld, allowCases, allowAnswer, handleCases, handleAnswer};
 ghost use Rattle.lent_policy.specs.Layout.{allowedCountAt, regionCountAt, bytesAt, rangeAt, regionAt, keptHandler, policyAt, withRange, withRegion, withAllowed, withRegions};
 ghost use Rattle.lent_policy.specs.Calls.{allowCall, handleCall, findCall};
 use lent_words::THREE_WORDS;
@@ -249,7 +249,7 @@ fn overlaps_regions(policy: &[u8; POLICY_SIZE], bytes: PageRange) -> bool
 
 // Refusals 5 to 7, in order.
 fn allow_answer_for(policy: &[u8; POLICY_SIZE], range: Stage2Range) -> Stage2Result
-    ensures { λ r. ⌜ r ≡ allowAnswerFor (policyAt (now (policy .entry))) range ⌝ }
+    ensures { λ r. ⌜ r ≡ answerOf (allowCases (policyAt (now (policy .entry))) (rangeBytes range)) ⌝ }
 {
     let range_bytes = range.bytes();
     if MAX_ALLOWED_RANGES <= get_allowed_count(policy) {
@@ -282,7 +282,7 @@ fn allow_answer(
     size: u64,
     attributes: u64,
 ) -> Stage2Result
-    ensures { λ r. ⌜ r ≡ allowAnswer (policyAt (now (policy .entry))) «base_ipa» size attributes ⌝ }
+    ensures { λ r. ⌜ r ≡ allowAnswer (policyAt (now (policy .entry))) «base_ipa» size ⌝ }
 {
     match stage2_range::validate_range(base_ipa, size) {
         Stage2Result::Refused(error) => Stage2Result::Refused(error),
@@ -307,7 +307,7 @@ pub fn allow_range(policy: &mut [u8; POLICY_SIZE], base_ipa: u64, size: u64, att
 
 // Refusals 6, 8 and 9, in order.
 fn handle_answer_for(policy: &[u8; POLICY_SIZE], region: MemoryAccessRegion) -> Stage2Result
-    ensures { λ r. ⌜ r ≡ handleAnswerFor (policyAt (now (policy .entry))) region ⌝ }
+    ensures { λ r. ⌜ r ≡ answerOf (handleCases (policyAt (now (policy .entry))) (regionBytes region)) ⌝ }
 {
     let region_bytes = region.bytes();
     if overlaps_allowed(policy, region_bytes) {

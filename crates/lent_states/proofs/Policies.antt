@@ -30,7 +30,7 @@ use Rattle.ritm.specs.Interface.{unlessRefused, allowCall, handleCall}
 pub allow-held : (b : List ℕ) (base size attributes : ℕ) → Lent policySize b → FitsWord base → FitsWord size → FitsWord attributes
     → policyAt (allowCall b base size attributes .state) ≡ allowRange (policyAt b) base size attributes .policy
 unfolding allowCall allowRange policyAt policy.addAllowed
-allow-held b base size attributes lent f g h = go (allowAnswer p base size attributes) refl
+allow-held b base size attributes lent f g h = go (allowAnswer p base size) refl
   where
     p : Policy
     p = policyAt b
@@ -38,7 +38,7 @@ allow-held b base size attributes lent f g h = go (allowAnswer p base size attri
     next : Policy
     next = policy.addAllowed p (rangeOf base size attributes)
 
-    go : (answer : Stage2Result) → allowAnswer p base size attributes ≡ answer
+    go : (answer : Stage2Result) → allowAnswer p base size ≡ answer
         → policyAt (unlessRefused (resultNumber (builtBy answer p next .answer)) b (withAllowed b (builtBy answer p next .policy .allowed) (builtBy answer p next .policy .«allowed_count»)))
         ≡ builtBy answer p next .policy
     go (Refused e) q = rw (ne-eqb (errorNumber e) 0 (error-not-zero e))

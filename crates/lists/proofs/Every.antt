@@ -1,7 +1,8 @@
 -- What every element of a list has, every element of a list that is made from it has. Assumes nothing.
 use Prim.Native.Nat.{ℕ, zero, suc, _≤_}
 use mathlib.Core.Bool.{Bool}
-use mathlib.Core.List.{List, [], _∷_, _++_}
+use mathlib.Core.Path.{refl}
+use mathlib.Core.List.{List, [], _∷_, _++_, List·Memᴰ, List·Memᴰ·head, List·Memᴰ·tail}
 use native.Mathlib.Omega.{arith}
 use lib.ListN.{length, set, take, drop}
 use Rattle.lists.specs.Lists.{replaceFirst, insertBefore}
@@ -12,6 +13,11 @@ Every P [] = Unit {0}
 Every P (x ∷ xs) = P x × Every P xs
 
 module _ {A : Type 0} (P : A → Type 0) where
+  -- what all members have
+  pub all-every : (l : List A) → ((x : A) → List·Memᴰ x l → P x) → Every P l
+  all-every [] h = tt
+  all-every (x ∷ l) h = (h x (List·Memᴰ·head refl), all-every l (λ y m. h y (List·Memᴰ·tail m)))
+
   pub every-append : (l m : List A) → Every P l → Every P m → Every P (l ++ m)
   every-append [] m h k = k
   every-append (x ∷ l) m h k = (h .0, every-append l m (h .1) k)

@@ -7,9 +7,9 @@ use lib.ListN.{replicate}
 use Rattle.lists.specs.Lists.{held}
 use Rattle.memory_access.specs.Syndrome.{faultIpa, decodeAccess}
 use Rattle.memory_access.specs.Transfer.{signExtend, loaded, atRegisterWidth, extendReadResult}
-use Rattle.stage2_range.specs.Ranges.{validateRange, hasByte, sharesByte, overlaps}
-use Rattle.stage2_range.specs.Registry.{findRegion, insertRegion, registerAnswer}
-use Rattle.stage2.specs.Policy.{freshPolicy, handleAnswerFor, addRegion, handleRange}
+use Rattle.stage2_range.specs.Ranges.{hasByte, sharesByte, overlaps}
+use Rattle.stage2_range.specs.Registry.{findRegion, insertRegion}
+use Rattle.stage2.specs.Policy.{freshPolicy, handleAnswer, addRegion, handleRange}
 use Rattle.simple_map.specs.declared.SuspendCoreData.{SuspendCoreData}
 use Rattle.simple_map.specs.Map.{isFree, holdsKey, valueOf, emptyMap, without, getItem, hasRoom, removeItem, insertItem}
 use Rattle.exceptions.specs.Registers.{freshCore, withRegisters, advancePc, writeGpr}
@@ -79,8 +79,8 @@ pub computed : (afterSteps page first .cores ≡ afterSteps page second .cores)
     × (said 1 first ≡ said 1 second)
     × (said 2 first ≡ said 2 second)
 unfolding
-    held bitsAt bitAt faultIpa decodeAccess lowBits signExtend loaded atRegisterWidth extendReadResult validateRange hasByte
-    sharesByte overlaps findRegion insertRegion registerAnswer freshPolicy handleAnswerFor addRegion handleRange
+    held bitsAt bitAt faultIpa decodeAccess lowBits signExtend loaded atRegisterWidth extendReadResult hasByte
+    sharesByte overlaps findRegion insertRegion freshPolicy handleAnswer addRegion handleRange
     isFree holdsKey valueOf emptyMap without getItem hasRoom removeItem insertItem freshState freshCore withRegisters advancePc writeGpr pageWord
     loadsCounter counterAfter readFilteredMmio injectionDue tryMemoryAccess withBits injected injectDataAbort handleDataAbort
     recipientOf withWait forwardCall exceptionClass byClass handleSyncLower freshCores saveCore onCore saveOn trapOn

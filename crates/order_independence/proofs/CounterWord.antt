@@ -5,10 +5,11 @@ use mathlib.Core.Path.{_≡_, refl, sym, _∙_, ap}
 use mathlib.Core.Bool.{Bool, true, false}
 use mathlib.Core.List.{List, List·Memᴰ·head, List·Memᴰ·tail}
 use native.Mathlib.Omega.{arith}
+use borrow.Author.Tests.{eqb-false}
 use lib.Dec.{ltb}
 use lib.ListN.{set}
 use Rattle.lists.specs.Refusals.{case}
-use Rattle.lists.proofs.Laws.{zero-none, all-numbered}
+use Rattle.lists.proofs.Laws.{zero-none}
 use Rattle.memory_access.specs.declared.MemoryAccessKind.the-variants.{Read}
 use Rattle.memory_access.specs.Syndrome.{faultIpa}
 use Rattle.stage2_range.specs.Registry.{regionBytes}
@@ -23,9 +24,11 @@ use Rattle.exceptions.specs.Registers.{coreOf}
 use Rattle.forwarded_call.specs.ForwardedCall.{waits}
 use Rattle.data_abort.specs.declared.TrapRegisters.{TrapRegisters}
 use Rattle.data_abort.specs.CounterLoad.{CounterLoad}
+use Rattle.core_answers.specs.declared.CoreError.the-variants.{NoSuchCore, CoreWaiting}
 use Rattle.core_answers.specs.declared.TrapAnswer.the-variants.{AccessHandled}
 use Rattle.hypervisor.specs.declared.Trapped.{Trapped}
-use Rattle.core_answers.specs.Answers.{trapNumber, withoutValues}
+use Rattle.core_answers.specs.Answers.{coreErrorNumber, trapNumber, withoutValues}
+use Rattle.core_answers.proofs.Laws.{error-not-zero}
 use Rattle.hypervisor.specs.Cores.{trapOn, trapCases}
 use Rattle.order_independence.specs.CounterWord.{LoadsCounterWord}
 use Rattle.hypervisor.proofs.Counter.{counterRead, StepLoads, step-loads, step-steady}
@@ -39,8 +42,11 @@ module _ (policy : Policy) (cores : List Core) (counter i : ℕ) (trap : TrapReg
   -- an accepted trap names one of the eight cores, which is idle
   accepted-idle : trapNumber (trapOn policy cores counter i trap .result .answer) ≡ 0 → (ltb 7 i ≡ false) × (waits (core .wait) ≡ false)
   accepted-idle e =
-      let unmet = zero-none (trapCases policy cores counter i trap) (all-numbered _ refl) (sym (trap-number policy cores counter i trap) ∙ e) in
-      (unmet (case 10 (ltb 7 i)) (List·Memᴰ·head refl), unmet (case 11 (waits (core .wait))) (List·Memᴰ·tail (List·Memᴰ·head refl)))
+      let none = sym (trap-number policy cores counter i trap) ∙ e in
+      let unmet = zero-none coreErrorNumber (trapCases policy cores counter i trap) (λ error. eqb-false _ _ (error-not-zero error)) none in (
+        unmet (case NoSuchCore (ltb 7 i)) (List·Memᴰ·head refl),
+        unmet (case CoreWaiting (waits (core .wait))) (List·Memᴰ·tail (List·Memᴰ·head refl)),
+      )
 
   -- in a well-formed policy the region 16 below the IPA is the one found
   found-region : WellFormed policy → LoadsCounterWord policy cores counter i trap → CounterLoad (regionsHeld policy) trap

@@ -8,9 +8,8 @@ use native.Mathlib.Omega.{arith}
 use borrow.Author.Tests.{eqb-true}
 use lib.Dec.{eqb}
 use Rattle.lists.specs.Lists.{held, select}
-use Rattle.stage2_range.specs.Ranges.{validateRange, sharesByte, overlaps}
-use Rattle.stage2_range.specs.Registry.{registerAnswer}
-use Rattle.stage2.specs.Policy.{freshPolicy, handleAnswerFor, addRegion, handleRange}
+use Rattle.stage2_range.specs.Ranges.{sharesByte, overlaps}
+use Rattle.stage2.specs.Policy.{freshPolicy, handleAnswer, addRegion, handleRange}
 use Rattle.stage2.specs.Builds.{BuilderCall, handle}
 use Rattle.order_independence.specs.Calls.{State, freshState, CoreCall, trap, afterBuilds}
 use Rattle.order_independence.specs.Steps.{isOwn, Named, Loads}
@@ -51,7 +50,7 @@ loader-is-0 s i (inr (inl l)) = sym (l .0)
 loader-is-0 s i (inr (inr l)) = absurd l
 
 done : Reordered key (freshState .policy) calls calls first second
-unfolding freshState freshPolicy held validateRange sharesByte overlaps handleAnswerFor registerAnswer addRegion handleRange
+unfolding freshState freshPolicy held sharesByte overlaps handleAnswer addRegion handleRange
 done = record { same-calls = Permᴰ·refl _; same-steps = List·Permᴰ·swap refl refl; own-order = λ i h. own-order i }
 
 -- a trap names no key

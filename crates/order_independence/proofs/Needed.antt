@@ -7,9 +7,9 @@ use lib.ListN.{getD}
 use Rattle.lists.specs.Lists.{held}
 use Rattle.memory_access.specs.Syndrome.{faultIpa, decodeAccess}
 use Rattle.memory_access.specs.Transfer.{signExtend, loaded, atRegisterWidth, extendReadResult}
-use Rattle.stage2_range.specs.Ranges.{validateRange, hasByte, sharesByte, overlaps}
-use Rattle.stage2_range.specs.Registry.{findRegion, insertRegion, registerAnswer}
-use Rattle.stage2.specs.Policy.{freshPolicy, allowAnswerFor, addAllowed, allowRange, handleAnswerFor, addRegion, handleRange}
+use Rattle.stage2_range.specs.Ranges.{hasByte, sharesByte, overlaps}
+use Rattle.stage2_range.specs.Registry.{findRegion, insertRegion}
+use Rattle.stage2.specs.Policy.{freshPolicy, allowAnswer, addAllowed, allowRange, handleAnswer, addRegion, handleRange}
 use Rattle.stage2.specs.Builds.{handle}
 use Rattle.simple_map.specs.declared.SuspendCoreData.{SuspendCoreData}
 use Rattle.simple_map.specs.declared.Insertion.the-variants.{Accepted, CapacityExceeded}
@@ -36,9 +36,9 @@ load = record { esr = 0x93C58000; fipa = record { 0 = 0xF000 }; far = 0x10; vbar
 pub two-loaders : (key : ℕ → ℕ)
     → Same key (afterSteps page (trap 0 load ∷ trap 1 load ∷ [])) (afterSteps page (trap 1 load ∷ trap 0 load ∷ [])) → ⊥
 unfolding
-    held bitsAt bitAt faultIpa decodeAccess lowBits signExtend loaded atRegisterWidth extendReadResult validateRange hasByte
-    sharesByte overlaps findRegion insertRegion registerAnswer freshPolicy allowAnswerFor addAllowed allowRange
-    handleAnswerFor addRegion handleRange freshState freshCore withRegisters advancePc writeGpr pageWord loadsCounter counterAfter
+    held bitsAt bitAt faultIpa decodeAccess lowBits signExtend loaded atRegisterWidth extendReadResult hasByte
+    sharesByte overlaps findRegion insertRegion freshPolicy allowAnswer addAllowed allowRange
+    handleAnswer addRegion handleRange freshState freshCore withRegisters advancePc writeGpr pageWord loadsCounter counterAfter
     readFilteredMmio injectionDue tryMemoryAccess handleDataAbort exceptionClass byClass handleSyncLower freshCores trapOn
 two-loaders key same =
     let e : _≡_ {A = ℕ} 0 1 = ap (λ cores. getD (coreOf cores 0 .x) 5 9) (same .all-cores) in

@@ -1,23 +1,20 @@
 -- What an accepted builder call makes of the two lists held, and that a call's answer depends on what is held alone: by `allow-accepted` and
--- `handle-accepted` an accepted call is its insertion, and each answer is a path over the equal lists and counts. Assumes nothing.
+-- `handle-accepted` an accepted call is its insertion, and each answer is rewritten by the equal lists and counts. Assumes nothing.
 use Prim.Native.Nat.{ℕ}
 use mathlib.Core.Path.{_≡_, refl, sym, _∙_, ap}
-use mathlib.Core.Bool.{false, not, _&&_}
+use mathlib.Core.Bool.{false}
 use native.Mathlib.Omega.{arith}
 use lib.Dec.{leb}
 use lib.ListN.{length}
 use Rattle.lists.specs.Lists.{insertBefore}
 use Rattle.lists.proofs.Laws.{length-held}
-use Rattle.stage2_range.specs.declared.Stage2ConfigError.the-variants.{TooManyAllowedRanges, AllowedRangeOverlap, AllowedRangeOverlapsMemoryAccessHandler, TooManyMemoryAccessHandlerRegions, MemoryAccessHandlerRangeOverlap, UnknownMemoryHandler}
 use Rattle.stage2_range.specs.declared.Stage2Result.{Stage2Result}
 use Rattle.stage2_range.specs.declared.Stage2Result.the-variants.{Accepted, Refused}
-use Rattle.stage2_range.specs.Ranges.{refuseIf, validateRange, pageRange, rangeOf, overlapsAllowed, resultNumber}
-use Rattle.stage2_range.specs.Handlers.{isHandler}
-use Rattle.stage2_range.specs.Registry.{regionOf, overlapsRegions, registerAnswer}
+use Rattle.stage2_range.specs.Ranges.{rangeOf, resultNumber}
+use Rattle.stage2_range.specs.Registry.{regionOf}
 use Rattle.stage2.specs.declared.Policy.{Policy}
-use Rattle.stage2.specs.Policy.{allowedHeld, regionsHeld, after, addAllowed, addRegion, allowAnswerFor, handleAnswerFor}
+use Rattle.stage2.specs.Policy.{allowedHeld, regionsHeld, allowAnswer, addAllowed, handleAnswer, addRegion}
 use Rattle.stage2.specs.Builds.{BuilderCall, allow, handle, build, WellFormed}
-use Rattle.stage2.specs.Changes.{SameHeld}
 use Rattle.stage2.proofs.Laws.{error-not-zero, build-refused, allow-answer, handle-answer, allow-accepted, can-allow, handle-accepted, can-handle}
 use Rattle.stage2.proofs.WellFormed.{allowed-held, regions-held, build-keeps}
 
@@ -56,6 +53,13 @@ module _ (p : Policy) (w : WellFormed p) where
       rw (can-handle p base size read write k)
       (refl, regions-held p (regionOf base size read write) (w .region-places .all) (k .room))
 
+-- two policies hold the same, in place: their counts, their allowed ranges and their regions are equal
+pub record SameHeld (p q : Policy) : Type 0 where
+  pub allowed-counts : p .«allowed_count» ≡ q .«allowed_count»
+  pub region-counts : p .«region_count» ≡ q .«region_count»
+  pub allowed : allowedHeld p ≡ allowedHeld q
+  pub regions : regionsHeld p ≡ regionsHeld q
+
 -- well-formed policies whose lists held are equal have equal counts
 pub same-held : (p q : Policy) → WellFormed p → WellFormed q → allowedHeld p ≡ allowedHeld q → regionsHeld p ≡ regionsHeld q → SameHeld p q
 same-held p q w w′ e f = record {
@@ -69,24 +73,11 @@ same-held p q w w′ e f = record {
 module _ (p q : Policy) (same : SameHeld p q) where
   -- each call has the same answer from both: it depends on counts and lists held alone
   pub build-answer-same : (c : BuilderCall) → build p c .answer ≡ build q c .answer
-  unfolding allowAnswerFor handleAnswerFor registerAnswer
+  unfolding allowAnswer handleAnswer
   build-answer-same (allow base size attributes) =
-      allow-answer p base size attributes
-      ∙ (λ i. after (validateRange base size)
-      (refuseIf (leb 32 (same .allowed-counts i)) TooManyAllowedRanges
-      (refuseIf (overlapsAllowed (same .allowed i) (pageRange base size)) AllowedRangeOverlap
-      (refuseIf (overlapsRegions (same .regions i) (pageRange base size)) AllowedRangeOverlapsMemoryAccessHandler
-      Accepted))))
-      ∙ sym (allow-answer q base size attributes)
+      rw (allow-answer p base size attributes, allow-answer q base size attributes, same .allowed, same .regions, same .allowed-counts)
   build-answer-same (handle base size read write) =
-      handle-answer p base size read write
-      ∙ (λ i. refuseIf (not (isHandler read && isHandler write)) UnknownMemoryHandler
-      (after (validateRange base size)
-      (refuseIf (overlapsAllowed (same .allowed i) (pageRange base size)) AllowedRangeOverlap
-      (refuseIf (leb 16 (same .region-counts i)) TooManyMemoryAccessHandlerRegions
-      (refuseIf (overlapsRegions (same .regions i) (pageRange base size)) MemoryAccessHandlerRangeOverlap
-      Accepted)))))
-      ∙ sym (handle-answer q base size read write)
+      rw (handle-answer p base size read write, handle-answer q base size read write, same .allowed, same .regions, same .region-counts)
 
   -- after it they hold the same again
   pub build-same-held : (c : BuilderCall) → WellFormed p → WellFormed q → SameHeld (build p c .policy) (build q c .policy)

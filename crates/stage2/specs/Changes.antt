@@ -1,9 +1,7 @@
--- The calls that change a policy, lists of them, and policies that hold the same. Assumes nothing.
-use mathlib.Core.Path.{_≡_}
+-- The calls that change a policy, and lists of them. Assumes nothing.
 use mathlib.Core.List.{List, [], _∷_}
 use Rattle.stage2.specs.declared.Policy.{Policy}
 use Rattle.stage2.specs.declared.Built.{Built}
-use Rattle.stage2.specs.Policy.{allowedHeld, regionsHeld}
 use Rattle.stage2.specs.Builds.{BuilderCall, build}
 
 -- the calls that change a policy: document 01's are the builder calls
@@ -18,10 +16,3 @@ change p (builder c) = build p c
 abbrev pub changeAll : Policy → List PolicyCall → Policy
 changeAll p [] = p
 changeAll p (c ∷ cs) = changeAll (change p c .policy) cs
-
--- two policies hold the same, in place: their counts, their allowed ranges and their regions are equal
-pub record SameHeld (p q : Policy) : Type 0 where
-  pub allowed-counts : p .«allowed_count» ≡ q .«allowed_count»
-  pub region-counts : p .«region_count» ≡ q .«region_count»
-  pub allowed : allowedHeld p ≡ allowedHeld q
-  pub regions : regionsHeld p ≡ regionsHeld q

@@ -1,20 +1,22 @@
 -- The stage-2 policy and the calls that build it (document 01, "Range and region" and its table of refusals). Policies handed in may hold
 -- anything. Assumes nothing.
 use Prim.Native.Nat.{ℕ, _+_}
-use mathlib.Core.Bool.{Bool, not, _&&_}
+use mathlib.Core.Bool.{not, _&&_}
 use mathlib.Core.List.{List, [], _∷_, _++_}
 use lib.Dec.{leb}
 use lib.ListN.{set, replicate}
 use Rattle.lists.specs.Lists.{held}
 use Rattle.lists.specs.Refusals.{Case, case}
+use Rattle.stage2_range.specs.declared.Stage2ConfigError.{Stage2ConfigError}
 use Rattle.stage2_range.specs.declared.Stage2ConfigError.the-variants.{TooManyAllowedRanges, AllowedRangeOverlap, AllowedRangeOverlapsMemoryAccessHandler, UnknownMemoryHandler}
 use Rattle.stage2_range.specs.declared.Stage2Result.{Stage2Result}
 use Rattle.stage2_range.specs.declared.Stage2Result.the-variants.{Accepted, Refused}
+use Rattle.stage2_range.specs.declared.PageRange.{PageRange}
 use Rattle.stage2_range.specs.declared.Stage2Range.{Stage2Range}
 use Rattle.stage2_range.specs.declared.MemoryAccessRegion.{MemoryAccessRegion}
-use Rattle.stage2_range.specs.Ranges.{refuseIf, validateRange, pageRange, rangeOf, rangeBytes, overlapsAllowed, rangeCases}
+use Rattle.stage2_range.specs.Ranges.{answerOf, rangeCases, pageRange, rangeOf, overlapsAllowed}
 use Rattle.stage2_range.specs.Handlers.{isHandler}
-use Rattle.stage2_range.specs.Registry.{regionOf, regionBytes, overlapsRegions, insertRegion, registerAnswer}
+use Rattle.stage2_range.specs.Registry.{regionOf, overlapsRegions, insertRegion, registerCases}
 use Rattle.stage2.specs.declared.Policy.{Policy}
 use Rattle.stage2.specs.declared.Built.{Built}
 
@@ -35,23 +37,22 @@ allowedHeld p = held 32 (p .«allowed_count») (p .allowed)
 abbrev pub regionsHeld : Policy → List MemoryAccessRegion
 regionsHeld p = held 16 (p .«region_count») (p .regions)
 
--- the first refusal, or else what follows it
-abbrev pub after : Stage2Result → Stage2Result → Stage2Result
-after Accepted rest = rest
-after (Refused error) rest = Refused error
-
 -- "A refusal returns its number .., and all state is as before"
 abbrev pub builtBy : Stage2Result → Policy → Policy → Built
 builtBy Accepted before next = record { answer = Accepted; policy = next }
 builtBy (Refused error) before next = record { answer = Refused error; policy = before }
 
 -- refusals 5 to 7: "32 allowed", "shares a byte with an allowed range", "allowing, shares a byte with a region"
-unfoldable pub allowAnswerFor : Policy → Stage2Range → Stage2Result
-allowAnswerFor p r =
-    refuseIf (leb 32 (p .«allowed_count»)) TooManyAllowedRanges
-    (refuseIf (overlapsAllowed (allowedHeld p) (rangeBytes r)) AllowedRangeOverlap
-    (refuseIf (overlapsRegions (regionsHeld p) (rangeBytes r)) AllowedRangeOverlapsMemoryAccessHandler
-    Accepted))
+abbrev pub allowCases : Policy → PageRange → List (Case Stage2ConfigError)
+allowCases p bytes =
+    case TooManyAllowedRanges (leb 32 (p .«allowed_count»))
+    ∷ case AllowedRangeOverlap (overlapsAllowed (allowedHeld p) bytes)
+    ∷ case AllowedRangeOverlapsMemoryAccessHandler (overlapsRegions (regionsHeld p) bytes)
+    ∷ []
+
+-- what `allow_range` answers: "allow 1 to 7 in order"
+unfoldable pub allowAnswer : Policy → ℕ → ℕ → Stage2Result
+allowAnswer p base size = answerOf (rangeCases base size ++ allowCases p (pageRange base size))
 
 -- an allowed range stands after those that came before it
 unfoldable pub addAllowed : Policy → Stage2Range → Policy
@@ -62,19 +63,23 @@ addAllowed p r = record {
   «region_count» = p .«region_count»;
 }
 
--- what `allow_range` answers: "allow 1 to 7 in order"
-abbrev pub allowAnswer : Policy → ℕ → ℕ → ℕ → Stage2Result
-allowAnswer p base size attributes = after (validateRange base size) (allowAnswerFor p (rangeOf base size attributes))
-
 -- `allow_range`
 unfoldable pub allowRange : Policy → ℕ → ℕ → ℕ → Built
-allowRange p base size attributes = builtBy (allowAnswer p base size attributes) p (addAllowed p (rangeOf base size attributes))
+allowRange p base size attributes = builtBy (allowAnswer p base size) p (addAllowed p (rangeOf base size attributes))
+
+-- refusal 20: "a half is neither 0 nor 1"
+abbrev pub halfCases : ℕ → ℕ → List (Case Stage2ConfigError)
+halfCases read write = case UnknownMemoryHandler (not (isHandler read && isHandler write)) ∷ []
 
 -- refusals 6, 8 and 9: "shares a byte with an allowed range", "16 regions", "handling, shares a byte with a region"
-unfoldable pub handleAnswerFor : Policy → MemoryAccessRegion → Stage2Result
-handleAnswerFor p r =
-    refuseIf (overlapsAllowed (allowedHeld p) (regionBytes r)) AllowedRangeOverlap
-    (registerAnswer (p .regions) (p .«region_count») r)
+abbrev pub handleCases : Policy → PageRange → List (Case Stage2ConfigError)
+handleCases p bytes =
+    case AllowedRangeOverlap (overlapsAllowed (allowedHeld p) bytes) ∷ registerCases (p .regions) (p .«region_count») bytes
+
+-- what `handle_range` answers: "handle 20, 1 to 4, 6, 8, 9"
+unfoldable pub handleAnswer : Policy → ℕ → ℕ → ℕ → ℕ → Stage2Result
+handleAnswer p base size read write =
+    answerOf (halfCases read write ++ (rangeCases base size ++ handleCases p (pageRange base size)))
 
 -- a region stands at its place by base
 unfoldable pub addRegion : Policy → MemoryAccessRegion → Policy
@@ -85,31 +90,6 @@ addRegion p r = record {
   «region_count» = p .«region_count» + 1;
 }
 
--- what `handle_range` answers: "handle 20, 1 to 4, 6, 8, 9"
-abbrev pub handleAnswer : Policy → ℕ → ℕ → ℕ → ℕ → Stage2Result
-handleAnswer p base size read write =
-    refuseIf (not (isHandler read && isHandler write)) UnknownMemoryHandler
-    (after (validateRange base size) (handleAnswerFor p (regionOf base size read write)))
-
 -- `handle_range`
 unfoldable pub handleRange : Policy → ℕ → ℕ → ℕ → ℕ → Built
 handleRange p base size read write = builtBy (handleAnswer p base size read write) p (addRegion p (regionOf base size read write))
-
--- the lines of the table that `allow_range` meets, in its order
-abbrev pub allowCases : Policy → ℕ → ℕ → List Case
-allowCases p base size =
-    rangeCases base size
-    ++ (case 5 (leb 32 (p .«allowed_count»))
-    ∷ case 6 (overlapsAllowed (allowedHeld p) (pageRange base size))
-    ∷ case 7 (overlapsRegions (regionsHeld p) (pageRange base size))
-    ∷ [])
-
--- the lines of the table that `handle_range` meets, in its order
-abbrev pub handleCases : Policy → ℕ → ℕ → ℕ → ℕ → List Case
-handleCases p base size read write =
-    case 20 (not (isHandler read && isHandler write))
-    ∷ (rangeCases base size
-    ++ (case 6 (overlapsAllowed (allowedHeld p) (pageRange base size))
-    ∷ case 8 (leb 16 (p .«region_count»))
-    ∷ case 9 (overlapsRegions (regionsHeld p) (pageRange base size))
-    ∷ []))

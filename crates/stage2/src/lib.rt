@@ -2,8 +2,9 @@
 ghost use mathlib.Core.Path.{_≡_};
 ghost use mathlib.Core.List.{[], _∷_};
 ghost use Rattle.stage2_range.specs.declared.Stage2Result.the-variants.{Refused};
-ghost use Rattle.stage2_range.specs.Registry.{findRegion};
-ghost use Rattle.stage2.specs.Policy.{freshPolicy, regionsHeld, builtBy, allowAnswerFor, addAllowed, allowRange, handleAnswerFor, addRegion, handleRange};
+ghost use Rattle.stage2_range.specs.Ranges.{answerOf, rangeBytes};
+ghost use Rattle.stage2_range.specs.Registry.{findRegion, regionBytes};
+ghost use Rattle.stage2.specs.Policy.{freshPolicy, regionsHeld, builtBy, allowCases, addAllowed, allowRange, handleCases, addRegion, handleRange};
 use memory_access::Ipa;
 use stage2_range::MAX_ALLOWED_RANGES;
 use stage2_range::MemoryAccessHandlerMatch;
@@ -93,7 +94,7 @@ fn refuse(policy: Policy, error: Stage2ConfigError) -> Built
 
 // Refusals 5 to 7, in order; an accepted range goes after those that are held.
 fn allow_valid(policy: Policy, range: Stage2Range) -> Built
-    ensures { λ r. ⌜ r ≡ builtBy (allowAnswerFor policy range) policy (addAllowed policy range) ⌝ }
+    ensures { λ r. ⌜ r ≡ builtBy (answerOf (allowCases policy (rangeBytes range))) policy (addAllowed policy range) ⌝ }
 {
     let allowed = policy.allowed;
     let regions = policy.regions;
@@ -122,7 +123,7 @@ fn allow_valid(policy: Policy, range: Stage2Range) -> Built
 
 // Refusals 6, 8 and 9, in order; an accepted region goes to its place by base.
 fn handle_valid(policy: Policy, region: MemoryAccessRegion) -> Built
-    ensures { λ r. ⌜ r ≡ builtBy (handleAnswerFor policy region) policy (addRegion policy region) ⌝ }
+    ensures { λ r. ⌜ r ≡ builtBy (answerOf (handleCases policy (regionBytes region))) policy (addRegion policy region) ⌝ }
 {
     let allowed = policy.allowed;
     let regions = policy.regions;

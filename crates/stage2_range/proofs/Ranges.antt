@@ -1,20 +1,21 @@
 -- Laws on ranges. Assumes nothing.
 use Prim.Native.Nat.{ℕ, _+_, _-_, _%_, _^_, _≤_, _<_, min, max}
 use mathlib.Core.Path.{_≡_, refl, sym, _∙_, ap}
-use mathlib.Core.Bool.{Bool, true, false, not, _&&_, cond, true≢false}
-use mathlib.Core.List.{List, List·Memᴰ}
+use mathlib.Core.Bool.{Bool, true, false, _&&_, cond, true≢false}
+use mathlib.Core.List.{List, _++_, List·Memᴰ}
 use native.Mathlib.Omega.{arith}
 use borrow.Author.Tests.{lt-ltb, le-ltb, le-leb, eq-eqb, ne-eqb, ltb-true, ltb-false, leb-true, eqb-true, eqb-false, not-false}
-use lib.Dec.{ltb, leb, eqb}
+use lib.Dec.{ltb, leb}
 use lib.ListN.{length, getD}
 use Rattle.lists.specs.Lists.{held}
-use Rattle.lists.specs.Refusals.{firstMet}
-use Rattle.lists.proofs.Laws.{FirstLeft, first-here, first-later, any-none, none-any, both-true, cond-map}
+use Rattle.lists.specs.Refusals.{Case, firstMet}
+use Rattle.lists.proofs.Laws.{FirstLeft, first-here, first-later, first-none, any-none, none-any, both-true, cond-map, met, met-map, met-append}
+use Rattle.lists.proofs.Every.{Every, all-every}
 use Rattle.stage2_range.specs.declared.Stage2ConfigError.{Stage2ConfigError}
 use Rattle.stage2_range.specs.declared.Stage2Result.{Stage2Result}
-use Rattle.stage2_range.specs.declared.Stage2Result.the-variants.{Accepted}
+use Rattle.stage2_range.specs.declared.Stage2Result.the-variants.{Accepted, Refused}
 use Rattle.stage2_range.specs.declared.PageRange.{PageRange}
-use Rattle.stage2_range.specs.Ranges.{refuseIf, pageMultiple, largestEnd, rangeCases, validateRange, ValidRange, resultNumber, pageRange, hasByte, sharesByte, overlaps, alignDown, alignUp, alignedNumber}
+use Rattle.stage2_range.specs.Ranges.{largestEnd, answerOf, rangeCases, validateRange, ValidRange, errorNumber, resultNumber, pageRange, hasByte, sharesByte, overlaps, alignDown, alignUp, alignedNumber}
 
 -- two tests that imply each other are equal
 test-ext : (t u : Bool) → (t ≡ true → u ≡ true) → (u ≡ true → t ≡ true) → t ≡ u
@@ -178,25 +179,44 @@ module _ {A : Type 0} (bytesOf : A → PageRange) (bytes : PageRange) where
     pub overlap-later : t ≡ false → OverlapLeft bytesOf bytes array m (i + 1) v
     overlap-later h = first-later inv below full d (shares-told bytes tested read h)
 
--- where nothing is refused, the test failed and nothing that follows is refused
-pub not-refused : (test : Bool) (e : Stage2ConfigError) (rest : Stage2Result) → refuseIf test e rest ≡ Accepted
-    → (test ≡ false) × (rest ≡ Accepted)
-not-refused true e rest h = let z : _≡_ {A = ℕ} 0 1 = cc in absurd (omega arith)
-not-refused false e rest h = (refl, h)
+-- a refusal does not accept
+pub not-accepted : (e : Stage2ConfigError) → Refused e ≡ Accepted → ⊥
+not-accepted e h = let z : _≡_ {A = ℕ} 0 1 = cc in omega arith
+
+-- the first refusal, or else what follows it
+abbrev pub after : Stage2Result → Stage2Result → Stage2Result
+after Accepted rest = rest
+after (Refused e) rest = Refused e
+
+-- where neither of two answers is a refusal, each accepts
+pub not-after : (first rest : Stage2Result) → after first rest ≡ Accepted → (first ≡ Accepted) × (rest ≡ Accepted)
+not-after Accepted rest h = (refl, h)
+not-after (Refused e) rest h = absurd (not-accepted e h)
+
+-- What a table of refusals answers.
+module _ (cases : List (Case Stage2ConfigError)) where
+  -- its number: first met wins
+  pub answer-number : resultNumber (answerOf cases) ≡ firstMet errorNumber 0 cases
+  answer-number = met-map Refused Accepted resultNumber cases
+
+  -- with more lines at its end, these answer where it accepts
+  pub answer-after : (more : List (Case Stage2ConfigError)) → answerOf (cases ++ more) ≡ after (answerOf cases) (answerOf more)
+  answer-after more = met-append Refused Accepted cases more ∙ sym (met-map Refused Accepted (λ s. after s (answerOf more)) cases)
+
+  -- where it accepts, no case is met
+  pub accepted-unmet : answerOf cases ≡ Accepted → Every (λ c. c .met ≡ false) cases
+  accepted-unmet h = all-every _ cases (first-none met _ Accepted (λ c t. not-accepted (c .refusal)) cases h)
 
 -- A range is accepted exactly where it is valid.
 pub accepted-valid : (base size : ℕ) → validateRange base size ≡ Accepted → ValidRange base size
 unfolding validateRange
 accepted-valid base size h =
-    let a = not-refused (not (eqb (base % 4096) 0)) _ _ h in
-    let b = not-refused (eqb size 0) _ _ (a .1) in
-    let c = not-refused (not (eqb (size % 4096) 0)) _ _ (b .1) in
-    let d = not-refused (ltb largestEnd (base + size)) _ _ (c .1) in
+    let unmet = accepted-unmet (rangeCases base size) h in
     record {
-      base-aligned = eqb-true _ _ (not-false _ (a .0));
-      not-empty = eqb-false size 0 (b .0);
-      whole-pages = eqb-true _ _ (not-false _ (c .0));
-      ends = ltb-false _ _ (d .0);
+      base-aligned = eqb-true _ _ (not-false _ (unmet .0));
+      not-empty = eqb-false size 0 (unmet .1 .0);
+      whole-pages = eqb-true _ _ (not-false _ (unmet .1 .1 .0));
+      ends = ltb-false _ _ (unmet .1 .1 .1 .0);
     }
 
 pub valid-accepted : (base size : ℕ) → ValidRange base size → validateRange base size ≡ Accepted
@@ -210,13 +230,9 @@ valid-accepted base size v =
     )
 
 -- "1 to 4 in order", first met wins
-pub validate-number : (base size : ℕ) → resultNumber (validateRange base size) ≡ firstMet (rangeCases base size)
+pub validate-number : (base size : ℕ) → resultNumber (validateRange base size) ≡ firstMet errorNumber 0 (rangeCases base size)
 unfolding validateRange
-validate-number base size =
-    cond-map resultNumber (not (pageMultiple base)) _ _
-    ∙ ap (cond (not (pageMultiple base)) 1) (cond-map resultNumber (eqb size 0) _ _
-    ∙ ap (cond (eqb size 0) 2) (cond-map resultNumber (not (pageMultiple size)) _ _
-    ∙ ap (cond (not (pageMultiple size)) 3) (cond-map resultNumber (ltb largestEnd (base + size)) _ _)))
+validate-number base size = answer-number (rangeCases base size)
 
 -- 18 exactly above 2^64 - 4,096
 pub aligned-number : (address : ℕ) → alignedNumber (alignUp address) ≡ cond (ltb (2 ^ 64 - 4096) address) 18 0

@@ -18,7 +18,7 @@ use Rattle.stage2_range.specs.declared.MemoryAccessRegion.{MemoryAccessR
 use Rattle.stage2_range.specs.declared.MemoryAccessHandlerMatch.{MemoryAccessHandlerMatch}
 use Rattle.stage2_range.specs.declared.RegionFound.{RegionFound}
 use Rattle.stage2_range.specs.declared.RegionFound.the-variants.{Nothing, Match}
-use Rattle.stage2_range.specs.Registry.{regionBytes, hasAddress, overlapsRegions, findRegion, insertRegion, registerAnswer, registerRegion}
+use Rattle.stage2_range.specs.Registry.{regionBytes, hasAddress, overlapsRegions, findRegion, insertRegion, registerRegion}
 use Rattle.stage2_range.specs.Ranges.{sharesByte, overlaps}
 use Rattle.stage2_range.specs.declared.Stage2ConfigError.the-variants.{TooManyMemoryAccessHandlerRegions, MemoryAccessHandlerRangeOverlap}
 use Rattle.stage2_range.proofs.Ranges.{byte-above}
@@ -128,18 +128,18 @@ module _ (regions : List MemoryAccessRegion) (n : ℕ) (region : MemoryAccessReg
   pub full-refused : 16 ≤ n
       → registerRegion regions n region
       ≡ record { answer = Refused TooManyMemoryAccessHandlerRegions; regions = regions; «region_count» = n }
-  unfolding registerRegion registerAnswer
+  unfolding registerRegion
   full-refused h = rw (le-leb 16 n h)
 
   pub overlap-refused : n < 16 → overlapsRegions (held 16 n regions) (regionBytes region) ≡ true
       → registerRegion regions n region
       ≡ record { answer = Refused MemoryAccessHandlerRangeOverlap; regions = regions; «region_count» = n }
-  unfolding registerRegion registerAnswer
+  unfolding registerRegion
   overlap-refused h o = rw (lt-leb 16 n h, o)
 
   pub apart-registered : n < 16 → overlapsRegions (held 16 n regions) (regionBytes region) ≡ false
       → registerRegion regions n region ≡ record { answer = Accepted; regions = insertRegion regions n region; «region_count» = n + 1 }
-  unfolding registerRegion registerAnswer
+  unfolding registerRegion
   apart-registered h o = rw (lt-leb 16 n h, o)
 
 -- the first of two searches that finds a region

@@ -5,7 +5,7 @@ use mathlib.Core.Bool.{Bool, not, _&&_, cond}
 use mathlib.Core.List.{List, [], _∷_}
 use lib.Dec.{ltb, leb, eqb}
 use Rattle.lists.specs.Lists.{anyOf}
-use Rattle.lists.specs.Refusals.{Case, case}
+use Rattle.lists.specs.Refusals.{Case, case, firstMet}
 use Rattle.stage2_range.specs.declared.Stage2ConfigError.{Stage2ConfigError}
 use Rattle.stage2_range.specs.declared.Stage2ConfigError.the-variants.{RangeBaseNotPageAligned, EmptyRange, RangeSizeNotPageMultiple, RangeEndOverflow, TooManyAllowedRanges, AllowedRangeOverlap, AllowedRangeOverlapsMemoryAccessHandler, TooManyMemoryAccessHandlerRegions, MemoryAccessHandlerRangeOverlap, UnknownMemoryHandler}
 use Rattle.stage2_range.specs.declared.Stage2Result.{Stage2Result}
@@ -15,9 +15,9 @@ use Rattle.stage2_range.specs.declared.Stage2Range.{Stage2Range}
 use Rattle.stage2_range.specs.declared.AlignedUp.{AlignedUp}
 use Rattle.stage2_range.specs.declared.AlignedUp.the-variants.{Address, NoPageAbove}
 
--- the refusal where the test holds, else what follows it: "First met wins"
-abbrev pub refuseIf : Bool → Stage2ConfigError → Stage2Result → Stage2Result
-refuseIf test error rest = cond test (Refused error) rest
+-- what a table answers: the first refusal that is met, and accepted where none is
+abbrev pub answerOf : List (Case Stage2ConfigError) → Stage2Result
+answerOf cases = firstMet Refused Accepted cases
 
 -- a number is a whole number of pages
 abbrev pub pageMultiple : ℕ → Bool
@@ -28,22 +28,17 @@ abbrev pub largestEnd : ℕ
 largestEnd = 2 ^ 64 - 1
 
 -- refusals 1 to 4: "base mod 4,096 is not 0", "size 0", "size mod 4,096 is not 0", "base + size ≥ 2^64"
-unfoldable pub validateRange : ℕ → ℕ → Stage2Result
-validateRange base size =
-    refuseIf (not (pageMultiple base)) RangeBaseNotPageAligned
-    (refuseIf (eqb size 0) EmptyRange
-    (refuseIf (not (pageMultiple size)) RangeSizeNotPageMultiple
-    (refuseIf (ltb largestEnd (base + size)) RangeEndOverflow
-    Accepted)))
-
--- the same four, as lines of the table
-abbrev pub rangeCases : ℕ → ℕ → List Case
+abbrev pub rangeCases : ℕ → ℕ → List (Case Stage2ConfigError)
 rangeCases base size =
-    case 1 (not (pageMultiple base))
-    ∷ case 2 (eqb size 0)
-    ∷ case 3 (not (pageMultiple size))
-    ∷ case 4 (ltb largestEnd (base + size))
+    case RangeBaseNotPageAligned (not (pageMultiple base))
+    ∷ case EmptyRange (eqb size 0)
+    ∷ case RangeSizeNotPageMultiple (not (pageMultiple size))
+    ∷ case RangeEndOverflow (ltb largestEnd (base + size))
     ∷ []
+
+-- what a base and a size are answered
+unfoldable pub validateRange : ℕ → ℕ → Stage2Result
+validateRange base size = answerOf (rangeCases base size)
 
 -- the arguments of a call fit: none of 1 to 4 is met
 pub record ValidRange (base size : ℕ) : Type 0 where

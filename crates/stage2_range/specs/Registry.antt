@@ -5,7 +5,9 @@ use mathlib.Core.List.{List, [], _∷_, _++_}
 use lib.Dec.{leb}
 use lib.ListN.{take, drop}
 use Rattle.lists.specs.Lists.{held, firstOf, insertBefore}
+use Rattle.lists.specs.Refusals.{Case, case}
 use Rattle.memory_access.specs.declared.Ipa.{Ipa}
+use Rattle.stage2_range.specs.declared.Stage2ConfigError.{Stage2ConfigError}
 use Rattle.stage2_range.specs.declared.Stage2ConfigError.the-variants.{TooManyMemoryAccessHandlerRegions, MemoryAccessHandlerRangeOverlap}
 use Rattle.stage2_range.specs.declared.Stage2Result.{Stage2Result}
 use Rattle.stage2_range.specs.declared.Stage2Result.the-variants.{Accepted, Refused}
@@ -14,7 +16,7 @@ use Rattle.stage2_range.specs.declared.MemoryAccessRegion.{MemoryAccessR
 use Rattle.stage2_range.specs.declared.RegionFound.{RegionFound}
 use Rattle.stage2_range.specs.declared.RegionFound.the-variants.{Nothing, Match}
 use Rattle.stage2_range.specs.declared.Registered.{Registered}
-use Rattle.stage2_range.specs.Ranges.{refuseIf, pageRange, hasByte, overlaps}
+use Rattle.stage2_range.specs.Ranges.{answerOf, pageRange, hasByte, overlaps}
 use Rattle.stage2_range.specs.Handlers.{handlerOf, handlerNumber}
 
 -- the region of a base and a size, and the numbers of its handlers
@@ -54,11 +56,11 @@ insertRegion regions n region =
     insertBefore (λ r. leb (region .«base_ipa») (r .«base_ipa»)) region (take n regions) ++ drop (n + 1) regions
 
 -- refusals 8 and 9: "16 regions", "shares a byte with a region"
-unfoldable pub registerAnswer : List MemoryAccessRegion → ℕ → MemoryAccessRegion → Stage2Result
-registerAnswer regions n region =
-    refuseIf (leb 16 n) TooManyMemoryAccessHandlerRegions
-    (refuseIf (overlapsRegions (held 16 n regions) (regionBytes region)) MemoryAccessHandlerRangeOverlap
-    Accepted)
+abbrev pub registerCases : List MemoryAccessRegion → ℕ → PageRange → List (Case Stage2ConfigError)
+registerCases regions n bytes =
+    case TooManyMemoryAccessHandlerRegions (leb 16 n)
+    ∷ case MemoryAccessHandlerRangeOverlap (overlapsRegions (held 16 n regions) bytes)
+    ∷ []
 
 -- an accepted region is inserted; a refusal leaves the registry as it was
 abbrev pub registeredBy : Stage2Result → List MemoryAccessRegion → ℕ → MemoryAccessRegion → Registered
@@ -67,7 +69,7 @@ registeredBy (Refused e) regions n region = record { answer = Refused e; regions
 
 -- the registry after a call
 unfoldable pub registerRegion : List MemoryAccessRegion → ℕ → MemoryAccessRegion → Registered
-registerRegion regions n region = registeredBy (registerAnswer regions n region) regions n region
+registerRegion regions n region = registeredBy (answerOf (registerCases regions n (regionBytes region))) regions n region
 
 -- the result fields of `find`: 1 where a region is found, its place among those held, and the offset in it; zeros where none is
 abbrev pub foundValues : ℕ → RegionFound → List ℕ

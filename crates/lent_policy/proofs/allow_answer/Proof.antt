@@ -1,4 +1,5 @@
 use borrow.Author.Needs.{needs}
+use Rattle.stage2.proofs.Laws.{allow-splits}
 use Rattle.lent_policy.proofs.allow_answer.Statement.{statement}
 use Rattle.lent_policy.proofs.allow_answer.Tie as tie
 
@@ -18,13 +19,14 @@ allow-answer-for-requires : tie.Need-allow-answer-for-requires
 allow-answer-for-requires c κs = search needs
 
 returns : tie.Need-returns
-returns c = rw (← c .before .before .before .validate-range .ensures, c .before .error .given .1)
+returns c = rw (allow-splits, ← c .before .before .before .validate-range .ensures, c .before .error .given .1)
 
 returns-2 : tie.Need-returns-2
 returns-2 c =
     rw (
       c .allow-answer-for .ensures,
       c .before .new .ensures,
+      allow-splits,
       ← c .before .before .before .before .validate-range .ensures,
       c .before .before .enum-told .given .1,
     )

@@ -1,4 +1,4 @@
--- Each answer is that of the first test met: what is known past the tests before it (`room`, `apart`) is rewritten in `allowAnswerFor`.
+-- Each answer is that of the first test met: what is known past the tests before it (`room`, `apart`) is rewritten in `allowCases`.
 use borrow.Author.Needs.{needs}
 use native.Mathlib.Omega.{arith}
 use borrow.Author.Tests.{le-leb, lt-leb}
@@ -8,7 +8,7 @@ use lib.Dec.{leb}
 use Rattle.stage2_range.specs.Ranges.{rangeBytes, overlapsAllowed}
 use Rattle.stage2_range.specs.Registry.{regionBytes}
 use Rattle.stage2_range.proofs.Ranges.{overlaps-told}
-use Rattle.stage2.specs.Policy.{allowedHeld, allowAnswerFor}
+use Rattle.stage2.specs.Policy.{allowedHeld}
 use Rattle.lent_policy.specs.Layout.{policyAt}
 use Rattle.lent_policy.proofs.States.{allowed-count}
 use Rattle.lent_policy.proofs.allow_answer_for.Statement.{statement}
@@ -32,7 +32,6 @@ get-allowed-count-requires : tie.Need-get-allowed-count-requires
 get-allowed-count-requires c κs = search needs
 
 returns : tie.Need-returns
-unfolding allowAnswerFor
 returns c =
     let b = c .before .before .before .args .policy .now in
     rw (le-leb 32 (policyAt b .«allowed_count») (omega (arith, c .if1 .taken, c .before .get-allowed-count .ensures, allowed-count b)))
@@ -41,7 +40,6 @@ overlaps-allowed-requires : tie.Need-overlaps-allowed-requires
 overlaps-allowed-requires c κs = search needs
 
 returns-2 : tie.Need-returns-2
-unfolding allowAnswerFor
 returns-2 c =
     rw (
       room (c .before .before),
@@ -52,7 +50,6 @@ overlaps-regions-requires : tie.Need-overlaps-regions-requires
 overlaps-regions-requires c κs = search needs
 
 returns-3 : tie.Need-returns-3
-unfolding allowAnswerFor
 returns-3 c =
     rw (
       room (c .before .before .before .before),
@@ -61,7 +58,6 @@ returns-3 c =
     )
 
 returns-4 : tie.Need-returns-4
-unfolding allowAnswerFor
 returns-4 c =
     rw (
       room (c .before .before .before .before),

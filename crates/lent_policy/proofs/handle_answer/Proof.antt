@@ -3,6 +3,7 @@ use borrow.Author.Tests.{not-false, not-true}
 use mathlib.Core.Path.{_≡_, sym, _∙_}
 use mathlib.Core.Bool.{true}
 use Rattle.stage2_range.specs.Handlers.{isHandler}
+use Rattle.stage2.proofs.Laws.{handle-splits}
 use borrow.Author.Needs.{needs}
 use Rattle.lent_policy.proofs.handle_answer.Statement.{statement}
 use Rattle.lent_policy.proofs.handle_answer.Tie as tie
@@ -20,7 +21,7 @@ is-handler-requires c κs = search needs
 returns : tie.Need-returns
 returns c =
     let read = sym (c .before .is-handler .ensures) ∙ not-true (c .before .is-handler .result) (c .if1 .taken) in
-    rw read
+    rw (handle-splits, read)
 
 is-handler-requires-2 : tie.Need-is-handler-requires-2
 is-handler-requires-2 c κs = search needs
@@ -28,7 +29,7 @@ is-handler-requires-2 c κs = search needs
 returns-2 : tie.Need-returns-2
 returns-2 c =
     let write = sym (c .before .is-handler2 .ensures) ∙ not-true (c .before .is-handler2 .result) (c .if2 .taken) in
-    rw (read-known (c .before .before), write)
+    rw (handle-splits, read-known (c .before .before), write)
 
 validate-range-requires : tie.Need-validate-range-requires
 validate-range-requires c κs = search needs
@@ -49,6 +50,7 @@ returns-3 : tie.Need-returns-3
 returns-3 c =
     let known = c .before .before .before .before in
     rw (
+      handle-splits,
       read-known (known .before .before),
       write-known known,
       ← c .before .before .before .validate-range .ensures,
@@ -61,6 +63,7 @@ returns-4 c =
     rw (
       c .handle-answer-for .ensures,
       c .before .new .ensures,
+      handle-splits,
       read-known (known .before .before),
       write-known known,
       ← c .before .before .before .before .validate-range .ensures,

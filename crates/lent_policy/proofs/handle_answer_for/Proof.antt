@@ -1,4 +1,4 @@
--- Each answer is that of the first test met: what is known past the tests before it (`apart`, `room`) is rewritten in `handleAnswerFor`.
+-- Each answer is that of the first test met: what is known past the tests before it (`apart`, `room`) is rewritten in `handleCases`.
 use borrow.Author.Needs.{needs}
 use native.Mathlib.Omega.{arith}
 use borrow.Author.Tests.{le-leb, lt-leb}
@@ -6,9 +6,9 @@ use mathlib.Core.Path.{_≡_}
 use mathlib.Core.Bool.{false}
 use lib.Dec.{leb}
 use Rattle.stage2_range.specs.Ranges.{rangeBytes, overlapsAllowed}
-use Rattle.stage2_range.specs.Registry.{regionBytes, registerAnswer}
+use Rattle.stage2_range.specs.Registry.{regionBytes}
 use Rattle.stage2_range.proofs.Ranges.{overlaps-told}
-use Rattle.stage2.specs.Policy.{allowedHeld, handleAnswerFor}
+use Rattle.stage2.specs.Policy.{allowedHeld}
 use Rattle.lent_policy.specs.Layout.{policyAt}
 use Rattle.lent_policy.proofs.States.{region-count}
 use Rattle.lent_policy.proofs.handle_answer_for.Statement.{statement}
@@ -32,7 +32,6 @@ overlaps-allowed-requires : tie.Need-overlaps-allowed-requires
 overlaps-allowed-requires c κs = search needs
 
 returns : tie.Need-returns
-unfolding handleAnswerFor
 returns c =
     rw (overlaps-told rangeBytes _ _ (c .before .overlaps-allowed .ensures) (c .before .before .bytes .ensures) (c .if1 .taken))
 
@@ -40,7 +39,6 @@ get-region-count-requires : tie.Need-get-region-count-requires
 get-region-count-requires c κs = search needs
 
 returns-2 : tie.Need-returns-2
-unfolding handleAnswerFor registerAnswer
 returns-2 c =
     let b = c .before .before .before .before .before .args .policy .now in
     rw (apart (c .before .before), le-leb 16 (policyAt b .«region_count») (omega (arith, c .if2 .taken, c .before .get-region-count .ensures, region-count b)))
@@ -49,7 +47,6 @@ overlaps-regions-requires : tie.Need-overlaps-regions-requires
 overlaps-regions-requires c κs = search needs
 
 returns-3 : tie.Need-returns-3
-unfolding handleAnswerFor registerAnswer
 returns-3 c =
     rw (
       apart (c .before .before .before .before),
@@ -58,7 +55,6 @@ returns-3 c =
     )
 
 returns-4 : tie.Need-returns-4
-unfolding handleAnswerFor registerAnswer
 returns-4 c =
     rw (
       apart (c .before .before .before .before),

@@ -1,4 +1,4 @@
--- Each answer is that of the first test met: what is known past the tests before it (`room`, `apart`) is rewritten in `allowAnswerFor`.
+-- Each answer is that of the first test met: what is known past the tests before it (`room`, `apart`) is rewritten in `allowCases`.
 use borrow.Author.Tests.{le-leb, lt-leb}
 use mathlib.Core.Path.{_≡_}
 use mathlib.Core.Bool.{false}
@@ -6,7 +6,7 @@ use lib.Dec.{leb}
 use Rattle.stage2_range.specs.Ranges.{rangeBytes, overlapsAllowed}
 use Rattle.stage2_range.specs.Registry.{regionBytes}
 use Rattle.stage2_range.proofs.Ranges.{overlaps-told}
-use Rattle.stage2.specs.Policy.{allowedHeld, allowAnswerFor, addAllowed}
+use Rattle.stage2.specs.Policy.{allowedHeld, addAllowed}
 use borrow.Author.Needs.{needs}
 use Rattle.stage2.proofs.allow_valid.Statement.{statement}
 use Rattle.stage2.proofs.allow_valid.Tie as tie
@@ -27,7 +27,6 @@ refuse-requires : tie.Need-refuse-requires
 refuse-requires c κs = search needs
 
 returns : tie.Need-returns
-unfolding allowAnswerFor
 returns c = rw (c .refuse .ensures, le-leb _ _ (c .before .if1 .taken))
 
 overlaps-allowed-requires : tie.Need-overlaps-allowed-requires
@@ -37,7 +36,6 @@ refuse-requires-2 : tie.Need-refuse-requires-2
 refuse-requires-2 c κs = search needs
 
 returns-2 : tie.Need-returns-2
-unfolding allowAnswerFor
 returns-2 c =
     rw (
       c .refuse2 .ensures,
@@ -52,7 +50,6 @@ refuse-requires-3 : tie.Need-refuse-requires-3
 refuse-requires-3 c κs = search needs
 
 returns-3 : tie.Need-returns-3
-unfolding allowAnswerFor
 returns-3 c =
     rw (
       c .refuse3 .ensures,
@@ -71,7 +68,7 @@ add-next : tie.Need-add-next
 add-next c = search needs
 
 returns-4 : tie.Need-returns-4
-unfolding allowAnswerFor addAllowed
+unfolding addAllowed
 returns-4 c =
     rw (
       room (c .before .before .before .before),

@@ -1,15 +1,15 @@
 -- Past the test of the allowed ranges (`apart`) the registry answers, and what it hands back is what is built (`registered-built`).
-use Rattle.stage2_range.specs.Registry.{regionBytes, registerAnswer, registeredBy, registerRegion}
+use Rattle.stage2_range.specs.Registry.{regionBytes, registerCases, registeredBy, registerRegion}
 use mathlib.Core.Path.{_≡_, refl}
 use mathlib.Core.Bool.{false}
-use Rattle.stage2_range.specs.Ranges.{rangeBytes, overlapsAllowed}
+use Rattle.stage2_range.specs.Ranges.{answerOf, rangeBytes, overlapsAllowed}
 use Rattle.stage2_range.proofs.Ranges.{overlaps-told}
 use Rattle.stage2_range.specs.declared.Stage2Result.{Stage2Result}
 use Rattle.stage2_range.specs.declared.Stage2Result.the-variants.{Accepted, Refused}
 use Rattle.stage2_range.specs.declared.MemoryAccessRegion.{MemoryAccessRegion}
 use Rattle.stage2.specs.declared.Policy.{Policy}
 use Rattle.stage2.specs.declared.Built.{Built}
-use Rattle.stage2.specs.Policy.{allowedHeld, builtBy, handleAnswerFor, addRegion}
+use Rattle.stage2.specs.Policy.{allowedHeld, builtBy, addRegion}
 use borrow.Author.Needs.{needs}
 use Rattle.stage2.proofs.handle_valid.Statement.{statement}
 use Rattle.stage2.proofs.handle_valid.Tie as tie
@@ -48,7 +48,6 @@ refuse-requires : tie.Need-refuse-requires
 refuse-requires c κs = search needs
 
 returns : tie.Need-returns
-unfolding handleAnswerFor
 returns c =
     rw (
       c .refuse .ensures,
@@ -59,11 +58,11 @@ register-requires : tie.Need-register-requires
 register-requires c κs = search needs
 
 returns-2 : tie.Need-returns-2
-unfolding handleAnswerFor registerRegion
+unfolding registerRegion
 returns-2 c =
     let a = c .before .before .before .before .before .before .before .args in
     rw (c .before .register .ensures, apart (c .before .before))
-    (registered-built (registerAnswer (a .policy .regions) (a .policy .«region_count») (a .region)) (a .policy) (a .region))
+    (registered-built (answerOf (registerCases (a .policy .regions) (a .policy .«region_count») (regionBytes (a .region)))) (a .policy) (a .region))
 
 pub handle-valid-spec : {M : Type 1} → statement M
 handle-valid-spec =

@@ -1,4 +1,4 @@
--- Each answer is that of the first test met: what the tests before it left is rewritten in `registerAnswer`. An accepted region goes to the
+-- Each answer is that of the first test met: what the tests before it left is rewritten in `registerRegion`. An accepted region goes to the
 -- place that `position` gives.
 use lib.Dec.{leb}
 use Rattle.stage2_range.proofs.Registry.{place-within}
@@ -7,7 +7,7 @@ use mathlib.Core.Bool.{false}
 use Rattle.lists.specs.Lists.{held}
 use native.Mathlib.Omega.{arith}
 use borrow.Author.Tests.{le-leb, lt-leb}
-use Rattle.stage2_range.specs.Registry.{regionBytes, overlapsRegions, registerRegion, registerAnswer}
+use Rattle.stage2_range.specs.Registry.{regionBytes, overlapsRegions, registerRegion}
 use Rattle.stage2_range.proofs.Ranges.{overlaps-told}
 use Rattle.stage2_range.proofs.Registry.{insert-region}
 use borrow.Author.Needs.{needs}
@@ -15,7 +15,7 @@ use Rattle.stage2_range.proofs.register.Statement.{statement}
 use Rattle.stage2_range.proofs.register.Tie as tie
 
 returns : tie.Need-returns
-unfolding registerRegion registerAnswer
+unfolding registerRegion
 returns c = simp (le-leb _ _ (c .if1 .taken))
 
 bytes-requires : tie.Need-bytes-requires
@@ -25,7 +25,7 @@ overlaps-regions-requires : tie.Need-overlaps-regions-requires
 overlaps-regions-requires c κs = search needs
 
 returns-2 : tie.Need-returns-2
-unfolding registerRegion registerAnswer
+unfolding registerRegion
 returns-2 c =
     simp (
       lt-leb _ _ (c .before .before .before .if1 .left),
@@ -50,7 +50,7 @@ add-t15 : tie.Need-add-t15
 add-t15 c = search needs
 
 returns-3 : tie.Need-returns-3
-unfolding registerRegion registerAnswer
+unfolding registerRegion
 returns-3 c =
     let a = c .before .before .before .before .before .before .args in
     simp (

@@ -2,10 +2,11 @@ use Prim.Native.Nat.{ℕ, _+_}
 use borrow.Author.Tests.{eq-eqb, ne-eqb, lt-ltb, le-ltb}
 use native.Mathlib.Omega.{arith}
 use mathlib.Core.Path.{_≡_}
+use mathlib.Core.Bool.{cond}
 use lib.Dec.{ltb}
 use Rattle.stage2_range.specs.declared.Stage2ConfigError.the-variants.{RangeEndOverflow}
-use Rattle.stage2_range.specs.declared.Stage2Result.the-variants.{Accepted}
-use Rattle.stage2_range.specs.Ranges.{refuseIf, largestEnd, validateRange}
+use Rattle.stage2_range.specs.declared.Stage2Result.the-variants.{Accepted, Refused}
+use Rattle.stage2_range.specs.Ranges.{largestEnd, validateRange}
 use borrow.Author.Needs.{needs}
 use Rattle.stage2_range.proofs.validate_range.Statement.{statement}
 use Rattle.stage2_range.proofs.validate_range.Tie as tie
@@ -34,7 +35,7 @@ end c = c .before .before .before .args .base-ipa + c .before .before .before .a
 -- past the first three tests the end decides
 end-decides : (c : tie.Else3)
     → validateRange (c .before .before .before .args .base-ipa) (c .before .before .before .args .size)
-    ≡ refuseIf (ltb largestEnd (end c)) RangeEndOverflow Accepted
+    ≡ cond (ltb largestEnd (end c)) (Refused RangeEndOverflow) Accepted
 unfolding validateRange
 end-decides c = simp (eq-eqb _ _ (c .before .before .if1 .left), ne-eqb _ _ (c .before .if2 .left), eq-eqb _ _ (c .if3 .left))
 

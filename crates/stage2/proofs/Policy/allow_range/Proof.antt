@@ -1,4 +1,5 @@
 use Rattle.stage2.specs.Policy.{allowRange}
+use Rattle.stage2.proofs.Laws.{allow-splits}
 use borrow.Author.Needs.{needs}
 use Rattle.stage2.proofs.Policy.allow_range.Statement.{statement}
 use Rattle.stage2.proofs.Policy.allow_range.Tie as tie
@@ -23,7 +24,7 @@ allow-valid-requires c κs = search needs
 
 returns : tie.Need-returns
 unfolding allowRange
-returns c = rw (c .refuse .ensures, ← c .before .before .before .before .validate-range .ensures, c .before .before .error .given .1)
+returns c = rw (c .refuse .ensures, allow-splits, ← c .before .before .before .before .validate-range .ensures, c .before .before .error .given .1)
 
 returns-2 : tie.Need-returns-2
 unfolding allowRange
@@ -31,6 +32,7 @@ returns-2 c =
     rw (
       c .allow-valid .ensures,
       c .before .new .ensures,
+      allow-splits,
       ← c .before .before .before .before .validate-range .ensures,
       c .before .before .enum-told .given .1,
     )

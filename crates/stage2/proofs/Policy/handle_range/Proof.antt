@@ -4,6 +4,7 @@ use mathlib.Core.Path.{_≡_, sym, _∙_}
 use mathlib.Core.Bool.{true}
 use Rattle.stage2_range.specs.Handlers.{isHandler}
 use Rattle.stage2.specs.Policy.{handleRange}
+use Rattle.stage2.proofs.Laws.{handle-splits}
 use borrow.Author.Needs.{needs}
 use Rattle.stage2.proofs.Policy.handle_range.Statement.{statement}
 use Rattle.stage2.proofs.Policy.handle_range.Tie as tie
@@ -25,7 +26,7 @@ returns : tie.Need-returns
 unfolding handleRange
 returns c =
     let read = sym (c .before .before .is-handler .ensures) ∙ not-true (c .before .before .is-handler .result) (c .before .if1 .taken) in
-    rw (c .refuse .ensures, read)
+    rw (c .refuse .ensures, handle-splits, read)
 
 is-handler-requires-2 : tie.Need-is-handler-requires-2
 is-handler-requires-2 c κs = search needs
@@ -37,7 +38,7 @@ returns-2 : tie.Need-returns-2
 unfolding handleRange
 returns-2 c =
     let write = sym (c .before .before .is-handler2 .ensures) ∙ not-true (c .before .before .is-handler2 .result) (c .before .if2 .taken) in
-    rw (c .refuse2 .ensures, read-known (c .before .before .before), write)
+    rw (c .refuse2 .ensures, handle-splits, read-known (c .before .before .before), write)
 
 validate-range-requires : tie.Need-validate-range-requires
 validate-range-requires c κs = search needs
@@ -63,6 +64,7 @@ returns-3 c =
     let known = c .before .before .before .before .before in
     rw (
       c .refuse3 .ensures,
+      handle-splits,
       read-known (known .before .before),
       write-known known,
       ← c .before .before .before .before .validate-range .ensures,
@@ -76,6 +78,7 @@ returns-4 c =
     rw (
       c .handle-valid .ensures,
       c .before .new .ensures,
+      handle-splits,
       read-known (known .before .before),
       write-known known,
       ← c .before .before .before .before .validate-range .ensures,
