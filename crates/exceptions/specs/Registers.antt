@@ -31,16 +31,6 @@ coreOf cores i = getD cores i freshCore
 abbrev pub nextInstruction : ℕ → ℕ
 nextInstruction elr = (elr + 4) % 2 ^ 64
 
--- the core past the instruction that trapped
-unfoldable pub advancePc : Core → Core
-advancePc core = record {
-  x = core .x;
-  elr = nextInstruction (core .elr);
-  spsr = core .spsr;
-  el1 = core .el1;
-  wait = core .wait;
-}
-
 -- the core with other registers x0 to x30
 unfoldable pub withRegisters : Core → List ℕ → Core
 withRegisters core x = record { x = x; elr = core .elr; spsr = core .spsr; el1 = core .el1; wait = core .wait }
@@ -48,6 +38,10 @@ withRegisters core x = record { x = x; elr = core .elr; spsr = core .spsr; el1 =
 -- the core with another ELR and SPSR and other EL1 registers: where it goes on, and with what
 abbrev pub withReturn : Core → ℕ → ℕ → FaultRegisters → Core
 withReturn core elr spsr el1 = record { x = core .x; elr = elr; spsr = spsr; el1 = el1; wait = core .wait }
+
+-- the core past the instruction that trapped
+unfoldable pub advancePc : Core → Core
+advancePc core = withReturn core (nextInstruction (core .elr)) (core .spsr) (core .el1)
 
 -- "Registers x0 to x30"; index 31 "reads 0"; an index above 31 is refused
 unfoldable pub readGpr : Core → ℕ → GprRead

@@ -57,10 +57,7 @@ withWait core wait = record { x = core .x; elr = core .elr; spsr = core .spsr; e
 unfoldable pub forwardCall : Core → Conduit → ForwardedCall
 forwardCall core conduit =
     let recipient = recipientOf (getD (core .x) 0 0) in
-    record {
-      result = forwardedResult recipient (core .x);
-      core = withWait core (Call conduit recipient);
-    }
+    record { result = forwardedResult recipient (core .x); core = withWait core (Call conduit recipient) }
 
 -- a core waits
 abbrev pub waits : Wait → Bool
@@ -96,13 +93,7 @@ resumedElr Smc elr = nextInstruction elr
 
 -- the core goes on there, and waits no more
 unfoldable pub resumed : Conduit → Core → Core
-resumed conduit core = record {
-  x = core .x;
-  elr = resumedElr conduit (core .elr);
-  spsr = core .spsr;
-  el1 = core .el1;
-  wait = Nothing;
-}
+resumed conduit core = record { x = core .x; elr = resumedElr conduit (core .elr); spsr = core .spsr; el1 = core .el1; wait = Nothing }
 
 -- "The reply writes its registers"
 abbrev pub repliedBy : ReplyDecision → Core → List ℕ → CoreStep

@@ -56,12 +56,7 @@ replyOn cores i reply = onCore cores i (λ core. replyCore core reply)
 
 -- a trap's step, of one of the eight
 abbrev pub trappedBy : TrapStep → Policy → List Core → ℕ → Trapped
-trappedBy step policy cores i = record {
-  result = step .result;
-  policy = policy;
-  cores = set cores i (step .core);
-  counter = step .counter;
-}
+trappedBy step policy cores i = record { result = step .result; policy = policy; cores = set cores i (step .core); counter = step .counter }
 
 -- `trap`: "trap 10 to 13"
 unfoldable pub trapOn : Policy → List Core → ℕ → ℕ → TrapRegisters → Trapped
