@@ -1,7 +1,7 @@
 -- A step on one of the eight cores is that core's step, and no other core changes. Assumes nothing.
 use Prim.Native.Nat.{ℕ, _≤_}
-use mathlib.Core.Path.{_≡_, _∙_}
-use mathlib.Core.Bool.{cond}
+use mathlib.Core.Path.{_≡_, refl, _∙_, ap}
+use mathlib.Core.Bool.{Bool, true, false, cond}
 use mathlib.Core.List.{List}
 use native.Mathlib.Omega.{arith}
 use borrow.Author.Tests.{le-ltb}
@@ -16,10 +16,13 @@ use Rattle.exceptions.specs.declared.Core.{Core}
 use Rattle.exceptions.specs.Registers.{coreOf, freshCore}
 use Rattle.core_answers.specs.declared.CoreStep.{CoreStep}
 use Rattle.hypervisor.specs.declared.CoresStep.{CoresStep}
+use Rattle.core_answers.specs.declared.CoreError.the-variants.{NoSuchCore}
+use Rattle.core_answers.specs.declared.TrapAnswer.the-variants.{Refused}
 use Rattle.core_answers.specs.declared.TrapStep.{TrapStep}
+use Rattle.core_answers.specs.Answers.{withoutValues}
 use Rattle.hypervisor.specs.declared.Trapped.{Trapped}
 use Rattle.hypervisor.specs.Trap.{handleSyncLower}
-use Rattle.hypervisor.specs.Cores.{onCore, trapOn}
+use Rattle.hypervisor.specs.Cores.{onCore, trappedBy, trapOn}
 
 -- the cores with one of the eight replaced: a number above 7 names none
 abbrev replaced : List Core → ℕ → Core → List Core
@@ -66,6 +69,22 @@ module _ (policy : Policy) (cores : List Core) (counter i : ℕ) (trap : TrapReg
   pub trap-policy : after .policy ≡ policy
   unfolding trapOn
   trap-policy = cond-map (λ (t : Trapped). t .policy) (ltb 7 i) _ _ ∙ cond-same (ltb 7 i) policy
+
+-- Of policies that hold the same regions a trap makes the same, but for the policy, which it hands back.
+pub trap-by-regions : (p q : Policy) (cores : List Core) (counter i : ℕ) (trap : TrapRegisters) → regionsHeld p ≡ regionsHeld q →
+    let t = trapOn q cores counter i trap in
+    trapOn p cores counter i trap ≡ record { result = t .result; policy = p; cores = t .cores; counter = t .counter }
+unfolding trapOn
+trap-by-regions p q cores counter i trap e = go (ltb 7 i)
+  where
+    by : Bool → Policy → Trapped
+    by above policy =
+        cond above (record { result = withoutValues (Refused NoSuchCore); policy = policy; cores = cores; counter = counter })
+        (trappedBy (handleSyncLower (regionsHeld policy) (coreOf cores i) counter trap) policy cores i)
+
+    go : (above : Bool) → by above p ≡ record { result = by above q .result; policy = p; cores = by above q .cores; counter = by above q .counter }
+    go true = refl
+    go false = ap (λ regions. trappedBy (handleSyncLower regions (coreOf cores i) counter trap) p cores i) e
 
 -- A save or a reply: the same.
 module _ (cores : List Core) (i : ℕ) (step : Core → CoreStep) where

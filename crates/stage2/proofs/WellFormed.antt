@@ -2,7 +2,7 @@
 use Prim.Native.Nat.{ℕ, _+_, _-_, _≤_, _<_}
 use mathlib.Core.Path.{_≡_, refl, sym, _∙_, ap}
 use mathlib.Core.Bool.{Bool, true, false, cond, true≢false}
-use mathlib.Core.List.{List, [], _∷_, List·Memᴰ, List·Memᴰ·head, List·Memᴰ·tail, List·Memᴰ·not-nil, List·Memᴰ·cases-cons}
+use mathlib.Core.List.{List, [], _∷_, _++_, List·Memᴰ, List·Memᴰ·head, List·Memᴰ·tail, List·Memᴰ·not-nil, List·Memᴰ·cases-cons, Memᴰ·append-right}
 use mathlib.Core.Logic.{_⊎_, inl, inr}
 use native.Mathlib.Omega.{arith}
 use native.Mathlib.Numerals.{add-one}
@@ -40,6 +40,17 @@ module _ {A : Type 0} (bytesOf : A → PageRange) where
       go true k = ((λ z m. shares-sym (bytesOf y) (bytesOf z) ∙ h z m), a)
       go false k =
           (inserted-all (λ z. sharesByte (bytesOf x) (bytesOf z) ≡ false) before y xs (h x (List·Memᴰ·head refl)) (a .0), k)
+
+  -- one of them shares none with the others
+  pub others-apart : (before : List A) (x : A) (after : List A) → AllApart bytesOf (before ++ (x ∷ after)) → (y : A)
+      → List·Memᴰ y (before ++ after) → sharesByte (bytesOf x) (bytesOf y) ≡ false
+  others-apart [] x after a y m = a .0 y m
+  others-apart (z ∷ zs) x after a y m = go (List·Memᴰ·cases-cons m) (others-apart zs x after (a .1) y)
+    where
+      go : (y ≡ z) ⊎ List·Memᴰ y (zs ++ after) → (List·Memᴰ y (zs ++ after) → sharesByte (bytesOf x) (bytesOf y) ≡ false)
+          → sharesByte (bytesOf x) (bytesOf y) ≡ false
+      go (inl e) below = rw e (shares-sym (bytesOf x) (bytesOf z) ∙ a .0 x (Memᴰ·append-right zs (List·Memᴰ·head refl)))
+      go (inr k) below = below k
 
   abbrev Has : ℕ → A → Type 0
   Has ipa x = hasByte (bytesOf x) ipa ≡ true
