@@ -7,6 +7,7 @@
 use crate::call::{Answer, Call};
 use crate::ritm_rust::{CORES, DATA_ABORT, HVC, RitmRust, SMC, class};
 use reference::oracle::{self, Reply, Trap};
+use ritm::MemoryHandler;
 
 /// The refusals outside document 01's domain.
 pub const OUTSIDE: [u64; 9] = [10, 11, 12, 13, 14, 15, 16, 18, 20];
@@ -58,7 +59,7 @@ impl Asked {
 /// The refusal of a call outside document 01's domain, the first one met.
 fn outside(call: &Call, rust: &mut RitmRust) -> Option<u64> {
     match *call {
-        Call::Handle { read, write, .. } if read > 1 || write > 1 => Some(20),
+        Call::Handle { read, write, .. } if read.max(write) >= MemoryHandler::ALL.len() as u64 => Some(20),
         Call::Save { core, .. }
         | Call::Trap { core, .. }
         | Call::Reply { core, .. }

@@ -6,6 +6,7 @@
 use crate::call::{Call, List};
 use crate::random::{FILTERED_MMIO_STORE, Random};
 use reference::oracle::Trap;
+use ritm::MemoryHandler;
 
 const PAGE: u64 = 4096;
 /// The bases and sizes of a list are mostly pages of one stretch of addresses; here are the starts that matter.
@@ -277,11 +278,12 @@ impl Generator {
     }
 
     fn handle_range(&mut self, base: u64, size: u64) {
+        let known = MemoryHandler::ALL.len() as u64;
         let [read, write] = match self.random.below(40) {
-            0 => [2, self.random.below(3)],
-            1 => [self.random.below(3), self.random.pick(&[2, 3, u64::MAX])],
-            2..=14 => [self.random.below(2), self.random.below(2)],
-            _ => [1, 1],
+            0 => [known, self.random.below(known + 1)],
+            1 => [self.random.below(known + 1), self.random.pick(&[known, known + 1, u64::MAX])],
+            2..=14 => [self.random.below(known), self.random.below(known)],
+            _ => [MemoryHandler::FilteredMmio as u64; 2],
         };
         self.handled.push(base);
         self.calls.push(Call::Handle { base, size, read, write });
