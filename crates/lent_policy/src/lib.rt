@@ -65,7 +65,7 @@ fn put_range(policy: &mut [u8; POLICY_SIZE], place: usize, range: Stage2Range)
 
 // The bytes of the range or the region whose words begin at one: of the others none is read.
 fn get_bytes(policy: &[u8; POLICY_SIZE], at: usize) -> PageRange
-    requires { ⌜ at < 208 ⌝ }
+    requires { ⌜ at < regionCountAt ⌝ }
     ensures { λ r. ⌜ r ≡ bytesAt (now (policy .entry)) at ⌝ }
 {
     let base_ipa = lent_words::get_word(policy, at);
@@ -150,7 +150,7 @@ fn regions_held(policy: &[u8; POLICY_SIZE]) -> u64
 
 // Whether the record has the address.
 fn has_byte(policy: &[u8; POLICY_SIZE], at: usize, ipa: u64) -> bool
-    requires { ⌜ at < 208 ⌝ }
+    requires { ⌜ at < regionCountAt ⌝ }
     ensures { λ r. ⌜ r ≡ hasByte (bytesAt (now (policy .entry)) at) ipa ⌝ }
 {
     get_bytes(policy, at).has_byte(ipa)
@@ -158,7 +158,7 @@ fn has_byte(policy: &[u8; POLICY_SIZE], at: usize, ipa: u64) -> bool
 
 // Whether the record shares a byte with the given bytes.
 fn shares_byte(policy: &[u8; POLICY_SIZE], at: usize, bytes: PageRange) -> bool
-    requires { ⌜ at < 208 ⌝ }
+    requires { ⌜ at < regionCountAt ⌝ }
     ensures { λ r. ⌜ r ≡ sharesByte (bytesAt (now (policy .entry)) at) bytes ⌝ }
 {
     stage2_range::page_ranges_overlap(get_bytes(policy, at), bytes)
