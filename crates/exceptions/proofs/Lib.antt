@@ -3,3 +3,4 @@ pub mod Laws
 -- Machine values that the walks of this crate cite.
 mod Values
 pub mod InWords
+pub mod Opened

@@ -6,3 +6,4 @@ pub mod Kept
 pub mod Waiting
 pub mod Counter
 pub mod InWords
+pub mod Opened

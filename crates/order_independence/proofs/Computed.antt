@@ -4,25 +4,14 @@ use Prim.Native.Nat.{ℕ, _+_}
 use mathlib.Core.Path.{_≡_, refl}
 use mathlib.Core.List.{List, [], _∷_}
 use lib.ListN.{replicate}
-use Rattle.lists.specs.Lists.{held}
-use Rattle.memory_access.specs.Syndrome.{faultIpa, decodeAccess}
-use Rattle.memory_access.specs.Transfer.{signExtend, loaded, atRegisterWidth, extendReadResult}
-use Rattle.stage2_range.specs.Ranges.{hasByte, sharesByte, overlaps}
-use Rattle.stage2_range.specs.Registry.{findRegion, insertRegion}
-use Rattle.stage2.specs.Policy.{freshPolicy, handleAnswer, addRegion, handleRange}
 use Rattle.simple_map.specs.declared.SuspendCoreData.{SuspendCoreData}
-use Rattle.simple_map.specs.Map.{isFree, holdsKey, valueOf, emptyMap, without, getItem, hasRoom, removeItem, insertItem}
-use Rattle.exceptions.specs.Registers.{freshCore, withRegisters, advancePc, writeGpr}
-use Rattle.qemu.specs.FilteredMmio.{pageWord, loadsCounter, counterAfter, readFilteredMmio}
+use Rattle.simple_map.specs.Map.{getItem}
 use Rattle.data_abort.specs.declared.TrapRegisters.{TrapRegisters}
-use Rattle.data_abort.specs.DataAbort.{injectionDue, tryMemoryAccess, injected, injectDataAbort, handleDataAbort}
-use Rattle.forwarded_call.specs.ForwardedCall.{recipientOf, withWait, forwardCall}
-use Rattle.hypervisor.specs.Trap.{exceptionClass, byClass, handleSyncLower}
-use Rattle.hypervisor.specs.Cores.{freshCores, saveCore, onCore, saveOn, trapOn}
+use Rattle.simple_map.proofs.Opened as simple-map
+use Rattle.hypervisor.proofs.Opened as hypervisor
 use Rattle.order_independence.specs.Calls.{freshState, lent, CoreCall, save, trap, write-gpr, insert, get, remove, Answer, afterSteps, answersTo}
 use Rattle.order_independence.specs.Steps.{isOwn}
 use Rattle.order_independence.proofs.Needed.{page, load}
-use Rattle.bits.specs.Bits.{bitAt, bitsAt, lowBits, withBits}
 
 -- a load of 32 bits at 16, which faults; a call by HVC
 abbrev narrow : TrapRegisters
@@ -78,10 +67,5 @@ pub computed : (afterSteps page first .cores ≡ afterSteps page second .cores)
     × (said 0 first ≡ said 0 second)
     × (said 1 first ≡ said 1 second)
     × (said 2 first ≡ said 2 second)
-unfolding
-    held bitsAt bitAt faultIpa decodeAccess lowBits signExtend loaded atRegisterWidth extendReadResult hasByte
-    sharesByte overlaps findRegion insertRegion freshPolicy handleAnswer addRegion handleRange
-    isFree holdsKey valueOf emptyMap without getItem hasRoom removeItem insertItem freshState freshCore withRegisters advancePc writeGpr pageWord
-    loadsCounter counterAfter readFilteredMmio injectionDue tryMemoryAccess withBits injected injectDataAbort handleDataAbort
-    recipientOf withWait forwardCall exceptionClass byClass handleSyncLower freshCores saveCore onCore saveOn trapOn
+unfolding hypervisor.opened simple-map.opened freshState
 computed = (refl, refl, refl, refl, refl, refl, refl)

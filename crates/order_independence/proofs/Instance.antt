@@ -7,10 +7,9 @@ use mathlib.Core.Logic.{_⊎_, inl, inr}
 use native.Mathlib.Omega.{arith}
 use borrow.Author.Tests.{eqb-true}
 use lib.Dec.{eqb}
-use Rattle.lists.specs.Lists.{held, select}
-use Rattle.stage2_range.specs.Ranges.{sharesByte, overlaps}
-use Rattle.stage2.specs.Policy.{freshPolicy, handleAnswer, addRegion, handleRange}
+use Rattle.lists.specs.Lists.{select}
 use Rattle.stage2.specs.Builds.{BuilderCall, handle}
+use Rattle.hypervisor.proofs.Opened as hypervisor
 use Rattle.order_independence.specs.Calls.{State, freshState, CoreCall, trap, afterBuilds}
 use Rattle.order_independence.specs.Steps.{isOwn, Named, Loads}
 use Rattle.order_independence.specs.OrderIndependence.{Reordered, Separate, Found}
@@ -50,7 +49,7 @@ loader-is-0 s i (inr (inl l)) = sym (l .0)
 loader-is-0 s i (inr (inr l)) = absurd l
 
 done : Reordered key (freshState .policy) calls calls first second
-unfolding freshState freshPolicy held sharesByte overlaps handleAnswer addRegion handleRange
+unfolding hypervisor.opened freshState
 done = record { same-calls = Permᴰ·refl _; same-steps = List·Permᴰ·swap refl refl; own-order = λ i h. own-order i }
 
 -- a trap names no key

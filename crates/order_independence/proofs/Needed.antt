@@ -4,26 +4,17 @@ use mathlib.Core.Path.{_≡_, refl, sym, ap}
 use mathlib.Core.List.{List, [], _∷_, map}
 use native.Mathlib.Omega.{arith}
 use lib.ListN.{getD}
-use Rattle.lists.specs.Lists.{held}
-use Rattle.memory_access.specs.Syndrome.{faultIpa, decodeAccess}
-use Rattle.memory_access.specs.Transfer.{signExtend, loaded, atRegisterWidth, extendReadResult}
-use Rattle.stage2_range.specs.Ranges.{hasByte, sharesByte, overlaps}
-use Rattle.stage2_range.specs.Registry.{findRegion, insertRegion}
-use Rattle.stage2.specs.Policy.{freshPolicy, allowAnswer, addAllowed, allowRange, handleAnswer, addRegion, handleRange}
 use Rattle.stage2.specs.Builds.{handle}
 use Rattle.simple_map.specs.declared.SuspendCoreData.{SuspendCoreData}
 use Rattle.simple_map.specs.declared.Insertion.the-variants.{Accepted, CapacityExceeded}
-use Rattle.simple_map.specs.Map.{isFree, holdsKey, valueOf, emptyMap, without, getItem, hasRoom, insertItem, lookupValues}
-use Rattle.exceptions.specs.Registers.{freshCore, withRegisters, advancePc, writeGpr, coreOf}
-use Rattle.qemu.specs.FilteredMmio.{pageWord, loadsCounter, counterAfter, readFilteredMmio}
+use Rattle.simple_map.specs.Map.{getItem, lookupValues}
+use Rattle.exceptions.specs.Registers.{coreOf}
 use Rattle.data_abort.specs.declared.TrapRegisters.{TrapRegisters}
-use Rattle.data_abort.specs.DataAbort.{injectionDue, tryMemoryAccess, handleDataAbort}
-use Rattle.hypervisor.specs.Trap.{exceptionClass, byClass, handleSyncLower}
-use Rattle.hypervisor.specs.Cores.{freshCores, trapOn}
+use Rattle.simple_map.proofs.Opened as simple-map
+use Rattle.hypervisor.proofs.Opened as hypervisor
 use Rattle.order_independence.specs.Calls.{State, freshState, by-value, CoreCall, trap, write-gpr, insert, Answer, inserted, afterBuilds, afterSteps, answersTo}
 use Rattle.order_independence.specs.Steps.{isOwn}
 use Rattle.order_independence.specs.OrderIndependence.{Same}
-use Rattle.bits.specs.Bits.{bitAt, bitsAt, lowBits}
 
 -- a state with the filtered MMIO page, and a 64-bit load of its word at 16 into x5
 abbrev pub page : State
@@ -35,11 +26,7 @@ load = record { esr = 0x93C58000; fipa = record { 0 = 0xF000 }; far = 0x10; vbar
 -- Two cores that both load the counter word: the first finds 0, the second 1.
 pub two-loaders : (key : ℕ → ℕ)
     → Same key (afterSteps page (trap 0 load ∷ trap 1 load ∷ [])) (afterSteps page (trap 1 load ∷ trap 0 load ∷ [])) → ⊥
-unfolding
-    held bitsAt bitAt faultIpa decodeAccess lowBits signExtend loaded atRegisterWidth extendReadResult hasByte
-    sharesByte overlaps findRegion insertRegion freshPolicy allowAnswer addAllowed allowRange
-    handleAnswer addRegion handleRange freshState freshCore withRegisters advancePc writeGpr pageWord loadsCounter counterAfter
-    readFilteredMmio injectionDue tryMemoryAccess handleDataAbort exceptionClass byClass handleSyncLower freshCores trapOn
+unfolding hypervisor.opened freshState
 two-loaders key same =
     let e : _≡_ {A = ℕ} 0 1 = ap (λ cores. getD (coreOf cores 0 .x) 5 9) (same .all-cores) in
     omega arith
@@ -48,7 +35,7 @@ two-loaders key same =
 pub own-steps-swapped : (key : ℕ → ℕ)
     → Same key (afterSteps freshState (write-gpr by-value 0 5 1 ∷ write-gpr by-value 0 5 2 ∷ []))
     (afterSteps freshState (write-gpr by-value 0 5 2 ∷ write-gpr by-value 0 5 1 ∷ [])) → ⊥
-unfolding freshState freshCores freshCore writeGpr withRegisters
+unfolding hypervisor.opened freshState
 own-steps-swapped key same =
     let e : _≡_ {A = ℕ} 2 1 = ap (λ cores. getD (coreOf cores 0 .x) 5 9) (same .all-cores) in
     omega arith
@@ -57,7 +44,7 @@ own-steps-swapped key same =
 pub one-key : (first second : SuspendCoreData) → (first .«entry_point» ≡ second .«entry_point» → ⊥)
     → getItem (afterSteps freshState (insert 7 first ∷ insert 7 second ∷ []) .map) 7
     ≡ getItem (afterSteps freshState (insert 7 second ∷ insert 7 first ∷ []) .map) 7 → ⊥
-unfolding freshState emptyMap isFree holdsKey valueOf without getItem hasRoom insertItem
+unfolding simple-map.opened freshState
 one-key first second differ same = differ (ap (λ l. getD (lookupValues l) 1 0) (sym same))
 
 -- A key that is no core's: the ninth of nine keys is refused, whichever it is.
@@ -70,5 +57,5 @@ key-8 steps = answersTo (isOwn (λ i. i) 8) freshState steps
 
 pub ninth-key : (key-8 (inserts (0 ∷ 1 ∷ 2 ∷ 3 ∷ 4 ∷ 5 ∷ 6 ∷ 7 ∷ 8 ∷ [])) ≡ inserted CapacityExceeded ∷ [])
     × (key-8 (inserts (8 ∷ 0 ∷ 1 ∷ 2 ∷ 3 ∷ 4 ∷ 5 ∷ 6 ∷ 7 ∷ [])) ≡ inserted Accepted ∷ [])
-unfolding freshState emptyMap isFree holdsKey valueOf without getItem hasRoom insertItem
+unfolding simple-map.opened freshState
 ninth-key = (refl, refl)

@@ -5,3 +5,4 @@ pub mod Held
 pub mod Changes
 -- Machine values that the walks of this crate cite.
 mod Values
+pub mod Opened

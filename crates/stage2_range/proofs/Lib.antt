@@ -2,3 +2,4 @@
 pub mod Ranges
 pub mod Handlers
 pub mod Registry
+pub mod Opened
