@@ -2,7 +2,7 @@
 use Prim.Native.Nat.{ℕ}
 use mathlib.Core.Path.{_≡_, refl}
 use mathlib.Core.Bool.{false}
-use mathlib.Core.List.{List·Memᴰ, Memᴰ·eq-of-replicate}
+use mathlib.Core.List.{length, List·Memᴰ, Memᴰ·eq-of-replicate}
 use lib.Dec.{eqb}
 use Rattle.core_answers.specs.declared.CoreError.{CoreError}
 use Rattle.core_answers.specs.declared.CoreError.the-variants.{NoSuchCore, CoreWaiting, UnexpectedExceptionClass, NoGuestVector, NothingWaiting, UnknownReplyKind}
@@ -20,4 +20,4 @@ error-not-zero UnknownReplyKind = refl
 
 -- a refusal's result is zeros
 pub refused-zero : (error : CoreError) (v : ℕ) → List·Memᴰ v (resultWords (withoutValues (Refused error))) → v ≡ 0
-refused-zero error v m = Memᴰ·eq-of-replicate 19 m
+refused-zero error v m = Memᴰ·eq-of-replicate (length (resultWords (withoutValues (Refused error)))) m

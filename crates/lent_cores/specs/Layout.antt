@@ -12,7 +12,8 @@ use Rattle.exceptions.specs.declared.Wait.the-variants.{Nothing, Call}
 use Rattle.exceptions.specs.declared.Core.{Core}
 use Rattle.exceptions.specs.declared.FaultRegisters.{FaultRegisters}
 use Rattle.exceptions.specs.Registers.{coreOf}
-use Rattle.core_answers.specs.Answers.{forwardedLength}
+use Rattle.core_answers.specs.declared.TrapAnswer.the-variants.{AbortInjected}
+use Rattle.core_answers.specs.Answers.{withoutValues, resultWords}
 
 -- what a core waits for, by its code; an unknown code is nothing
 abbrev pub waitCodes : List Wait
@@ -65,7 +66,7 @@ abbrev pub registersSize : ℕ
 registersSize = 8 * (spsrWord + 1)
 
 abbrev pub trapResultSize : ℕ
-trapResultSize = 8 * (forwardedLength + 1)
+trapResultSize = 8 * length (resultWords (withoutValues AbortInjected))
 
 unfoldable pub coreAt : List ℕ → ℕ → Core
 coreAt cores i =

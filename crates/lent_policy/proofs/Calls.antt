@@ -11,7 +11,8 @@ use Rattle.stage2_range.specs.declared.Stage2Result.the-variants.{Accepted, Ref
 use Rattle.stage2_range.specs.Ranges.{errorNumber, rangeOf}
 use Rattle.stage2_range.specs.Registry.{regionOf, insertRegion}
 use Rattle.stage2.specs.Policy.{allowAnswer, addAllowed, allowRange, handleAnswer, addRegion, handleRange}
-use Rattle.stage2.proofs.Laws.{error-not-zero, allow-answer, allow-accepted, handle-answer, handle-accepted}
+use Rattle.stage2_range.proofs.Ranges.{error-not-zero}
+use Rattle.stage2.proofs.Laws.{allow-answer, allow-accepted, handle-answer, handle-accepted}
 use Rattle.lent_words.specs.Words.{wordAt, each, Left}
 use Rattle.lent_policy.specs.Layout.{allowedCountAt, regionCountAt, rangeAt, regionAt, policyAt, withAllowed, withRegions}
 use Rattle.lent_policy.specs.Calls.{allowCall, handleCall}

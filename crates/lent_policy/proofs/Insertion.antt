@@ -14,12 +14,12 @@ use Rattle.lent_words.proofs.InPlace.{store-kept}
 
 -- A part of what stands at places.
 module _ {A : Type 0} (f : ℕ → A) where
-  take-each : (k n i : ℕ) → i ≤ n → take i (each f k n) ≡ each f k i
+  pub take-each : (k n i : ℕ) → i ≤ n → take i (each f k n) ≡ each f k i
   take-each k n zero h = refl
   take-each k zero (suc i) h = absurd (omega arith)
   take-each k (suc n) (suc i) h = ap (_∷_ (f k)) (take-each (suc k) n i (omega arith))
 
-  drop-each : (k n i : ℕ) → i ≤ n → drop i (each f k n) ≡ each f (k + i) (n - i)
+  pub drop-each : (k n i : ℕ) → i ≤ n → drop i (each f k n) ≡ each f (k + i) (n - i)
   drop-each k n zero h =
       let z : n - 0 ≡ n = omega arith in
       rw (add-zero k, z)

@@ -2,10 +2,7 @@
 use Prim.Native.Nat.{ℕ, _+_, _<_}
 use mathlib.Core.Path.{_≡_, refl, ap, _∙_}
 use mathlib.Core.List.{List, [], _∷_}
-use mathlib.Core.Bool.{Bool, true, false, cond}
 use native.Mathlib.Omega.{arith}
-use borrow.Author.Tests.{ltb-false}
-use lib.Dec.{ltb}
 use native.Mathlib.Nat.{add-zero, zero-add}
 use lib.ListN.{length, getD, List·getD-eq-default}
 use Rattle.lent_words.specs.Words.{wordAt, each, FitsWord, Bytes, Lent}
@@ -16,9 +13,10 @@ use Rattle.stage2_range.specs.declared.Stage2Range.{Stage2Range}
 use Rattle.stage2_range.specs.declared.MemoryAccessRegion.{MemoryAccessRegion}
 use Rattle.stage2_range.specs.declared.MemoryHandler.{MemoryHandler}
 use Rattle.stage2_range.specs.declared.MemoryHandler.the-variants.{Absent}
-use Rattle.stage2_range.specs.Ranges.{largestEnd, pageRange, rangeOf, rangeWords}
+use Rattle.stage2_range.specs.Ranges.{rangeOf, rangeWords}
 use Rattle.stage2_range.specs.Handlers.{handlers, handlerOf, handlerNumber}
 use Rattle.stage2_range.specs.Registry.{regionOf}
+use Rattle.stage2_range.proofs.Ranges.{end-fits}
 use Rattle.stage2_range.proofs.Handlers.{handler-code}
 use Rattle.lent_policy.specs.Layout.{policySize, rangeStart, allowedCountAt, regionStart, regionCountAt, rangeAt, withRange, regionAt, keptHandler, regionStored, withRegion, readWord, writeWord}
 
@@ -68,13 +66,6 @@ abbrev pub RegionFits : MemoryAccessRegion → Type 0
 RegionFits r = Every FitsWord (r .«base_ipa» ∷ r .size ∷ r .«end_ipa» ∷ [])
 
 -- those of the range and of the region that a call asks for do
-end-fits : (base size : ℕ) → FitsWord base → FitsWord (pageRange base size .«end_ipa»)
-end-fits base size f = go (ltb largestEnd (base + size)) refl
-  where
-    go : (b : Bool) → ltb largestEnd (base + size) ≡ b → FitsWord (cond b base (base + size))
-    go true e = f
-    go false e = omega (arith, ltb-false largestEnd (base + size) e)
-
 pub asked-range-fits : (base size attributes : ℕ) → FitsWord base → FitsWord size → FitsWord attributes
     → RangeFits (rangeOf base size attributes)
 asked-range-fits base size attributes f g h = (f, (g, (end-fits base size f, (h, tt))))

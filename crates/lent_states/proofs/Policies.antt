@@ -20,7 +20,8 @@ use Rattle.stage2.specs.declared.Policy.{Policy}
 use Rattle.stage2.specs.Policy.{builtBy, allowAnswer, allowRange, handleAnswer, handleRange}
 use Rattle.stage2.specs.Policy as policy
 use Rattle.stage2.proofs.WellFormed.{inserted-places}
-use Rattle.stage2.proofs.Laws.{error-not-zero, allow-accepted, handle-accepted}
+use Rattle.stage2_range.proofs.Ranges.{error-not-zero}
+use Rattle.stage2.proofs.Laws.{allow-accepted, handle-accepted}
 use Rattle.lent_policy.specs.Layout.{policySize, rangeAt, regionAt, policyAt, withAllowed, withRegions}
 use Rattle.lent_policy.proofs.Records.{RangeFits, RegionFits, asked-range-fits, asked-region-fits, range-fits, region-fits}
 use Rattle.lent_policy.proofs.States.{allowed-back, regions-back}

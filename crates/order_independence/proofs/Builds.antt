@@ -18,13 +18,13 @@ use Rattle.stage2_range.specs.declared.MemoryAccessRegion.{MemoryAccessRegion}
 use Rattle.stage2_range.specs.Ranges.{ValidRange, pageRange, sharesByte, rangeOf, rangeBytes}
 use Rattle.stage2_range.specs.Handlers.{isHandler}
 use Rattle.stage2_range.specs.Registry.{regionOf, regionBytes}
-use Rattle.stage2_range.proofs.Ranges.{shares-sym, apart-bases, base-byte}
+use Rattle.stage2_range.proofs.Ranges.{shares-sym, apart-bases, base-byte, zero-accepted}
 use Rattle.stage2.specs.declared.Policy.{Policy}
 use Rattle.stage2.specs.declared.Built.{Built}
 use Rattle.stage2.specs.Policy.{allowedHeld, regionsHeld}
 use Rattle.stage2.specs.Builds.{BuilderCall, allow, handle, build, buildAll, Apart, CanAllow, CanHandle, WellFormed}
 use Rattle.order_independence.specs.Builds.{accepts, accepted, AllAccepted, SamePolicy}
-use Rattle.stage2.proofs.Laws.{zero-accepted, build-refused, allow-accepted, can-allow, handle-accepted, can-handle}
+use Rattle.stage2.proofs.Laws.{build-refused, allow-accepted, can-allow, handle-accepted, can-handle}
 use Rattle.stage2.proofs.WellFormed.{build-keeps}
 use Rattle.stage2.proofs.Held.{allowed-length, regions-length, allow-holds, handle-holds}
 

@@ -12,10 +12,11 @@ use Rattle.stage2_range.specs.declared.Stage2Result.{Stage2Result}
 use Rattle.stage2_range.specs.declared.Stage2Result.the-variants.{Accepted, Refused}
 use Rattle.stage2_range.specs.Ranges.{rangeOf, resultNumber}
 use Rattle.stage2_range.specs.Registry.{regionOf}
+use Rattle.stage2_range.proofs.Ranges.{error-not-zero}
 use Rattle.stage2.specs.declared.Policy.{Policy}
 use Rattle.stage2.specs.Policy.{allowedHeld, regionsHeld, allowAnswer, addAllowed, handleAnswer, addRegion}
 use Rattle.stage2.specs.Builds.{BuilderCall, allow, handle, build, WellFormed}
-use Rattle.stage2.proofs.Laws.{error-not-zero, build-refused, allow-answer, handle-answer, allow-accepted, can-allow, handle-accepted, can-handle}
+use Rattle.stage2.proofs.Laws.{build-refused, allow-answer, handle-answer, allow-accepted, can-allow, handle-accepted, can-handle}
 use Rattle.stage2.proofs.WellFormed.{allowed-held, regions-held, build-keeps}
 
 -- What a well-formed policy holds, and what it holds after an accepted call.

@@ -3,11 +3,8 @@ use Prim.Native.Nat.{ℕ}
 use mathlib.Core.Path.{_≡_, refl, sym, _∙_, ap}
 use mathlib.Core.Bool.{_&&_}
 use mathlib.Core.List.{_++_}
-use native.Mathlib.Omega.{arith}
 use borrow.Author.Tests.{lt-leb, leb-false, not-false}
 use Rattle.lists.specs.Refusals.{firstMet}
-use Rattle.stage2_range.specs.declared.Stage2ConfigError.{Stage2ConfigError}
-use Rattle.stage2_range.specs.declared.Stage2ConfigError.the-variants.{RangeBaseNotPageAligned, EmptyRange, RangeSizeNotPageMultiple, RangeEndOverflow, TooManyAllowedRanges, AllowedRangeOverlap, AllowedRangeOverlapsMemoryAccessHandler, TooManyMemoryAccessHandlerRegions, MemoryAccessHandlerRangeOverlap, UnknownMemoryHandler}
 use Rattle.stage2_range.specs.declared.Stage2Result.{Stage2Result}
 use Rattle.stage2_range.specs.declared.Stage2Result.the-variants.{Accepted, Refused}
 use Rattle.stage2_range.specs.Ranges.{answerOf, rangeCases, validateRange, pageRange, rangeOf, rangeBytes, errorNumber, resultNumber}
@@ -17,24 +14,6 @@ use Rattle.stage2_range.proofs.Ranges.{after, not-after, answer-number, answer-
 use Rattle.stage2.specs.declared.Policy.{Policy}
 use Rattle.stage2.specs.Policy.{allowedHeld, regionsHeld, builtBy, allowCases, allowAnswer, addAllowed, allowRange, halfCases, handleCases, handleAnswer, addRegion, handleRange}
 use Rattle.stage2.specs.Builds.{BuilderCall, allow, handle, build, CanAllow, CanHandle}
-
--- no refusal has the number 0
-pub error-not-zero : (e : Stage2ConfigError) → errorNumber e ≡ 0 → ⊥
-error-not-zero RangeBaseNotPageAligned h = omega arith
-error-not-zero EmptyRange h = omega arith
-error-not-zero RangeSizeNotPageMultiple h = omega arith
-error-not-zero RangeEndOverflow h = omega arith
-error-not-zero TooManyAllowedRanges h = omega arith
-error-not-zero AllowedRangeOverlap h = omega arith
-error-not-zero AllowedRangeOverlapsMemoryAccessHandler h = omega arith
-error-not-zero TooManyMemoryAccessHandlerRegions h = omega arith
-error-not-zero MemoryAccessHandlerRangeOverlap h = omega arith
-error-not-zero UnknownMemoryHandler h = omega arith
-
--- so an answer with the number 0 accepts
-pub zero-accepted : (s : Stage2Result) → resultNumber s ≡ 0 → s ≡ Accepted
-zero-accepted Accepted e = refl
-zero-accepted (Refused error) e = absurd (error-not-zero error e)
 
 -- what the calls answer
 pub built-answer : (s : Stage2Result) (p q : Policy) → builtBy s p q .answer ≡ s
@@ -67,7 +46,7 @@ handle-number p base size read write =
     ∙ answer-number (halfCases read write ++ (rangeCases base size ++ handleCases p (pageRange base size)))
 
 -- "A refusal returns its number .., and all state is as before"
-built-refused : (s : Stage2Result) (p q : Policy) → (resultNumber (builtBy s p q .answer) ≡ 0 → ⊥) → builtBy s p q .policy ≡ p
+pub built-refused : (s : Stage2Result) (p q : Policy) → (resultNumber (builtBy s p q .answer) ≡ 0 → ⊥) → builtBy s p q .policy ≡ p
 built-refused Accepted p q h = absurd (h refl)
 built-refused (Refused e) p q h = refl
 

@@ -21,12 +21,12 @@ use Rattle.stage2_range.specs.declared.RegionFound.{RegionFound}
 use Rattle.stage2_range.specs.declared.RegionFound.the-variants.{Nothing, Match}
 use Rattle.stage2_range.specs.Ranges.{ValidRange, pageRange, hasByte, sharesByte, rangeOf, rangeBytes, resultNumber}
 use Rattle.stage2_range.specs.Registry.{regionOf, regionBytes, hasAddress, findRegion, insertRegion}
-use Rattle.stage2_range.proofs.Ranges.{shares-sym, apart-byte, valid-byte}
+use Rattle.stage2_range.proofs.Ranges.{shares-sym, apart-byte, valid-byte, error-not-zero}
 use Rattle.stage2_range.proofs.Registry.{insert-by-base, find-none, find-held}
 use Rattle.stage2.specs.declared.Policy.{Policy}
 use Rattle.stage2.specs.Policy.{allowedHeld, regionsHeld, freshPolicy, addAllowed, addRegion}
 use Rattle.stage2.specs.Builds.{BuilderCall, allow, handle, build, buildAll, CanAllow, CanHandle, AllApart, Disjoint, WellFormed}
-use Rattle.stage2.proofs.Laws.{error-not-zero, build-refused, allow-accepted, can-allow, handle-accepted, can-handle}
+use Rattle.stage2.proofs.Laws.{build-refused, allow-accepted, can-allow, handle-accepted, can-handle}
 
 -- Records that share no byte: an insertion keeps them so, and two of them that have a byte in common are one.
 module _ {A : Type 0} (bytesOf : A → PageRange) where

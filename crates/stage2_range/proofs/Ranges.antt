@@ -7,11 +7,13 @@ use native.Mathlib.Omega.{arith}
 use borrow.Author.Tests.{lt-ltb, le-ltb, le-leb, eq-eqb, ne-eqb, ltb-true, ltb-false, leb-true, eqb-true, eqb-false, not-false}
 use lib.Dec.{ltb, leb}
 use lib.ListN.{length, getD}
+use Rattle.bits.specs.Bits.{FitsWord}
 use Rattle.lists.specs.Lists.{held}
 use Rattle.lists.specs.Refusals.{Case, firstMet}
 use Rattle.lists.proofs.Laws.{FirstLeft, first-here, first-later, first-none, any-none, none-any, both-true, cond-map, met, met-map, met-append}
 use Rattle.lists.proofs.Every.{Every, all-every}
 use Rattle.stage2_range.specs.declared.Stage2ConfigError.{Stage2ConfigError}
+use Rattle.stage2_range.specs.declared.Stage2ConfigError.the-variants.{RangeBaseNotPageAligned, EmptyRange, RangeSizeNotPageMultiple, RangeEndOverflow, TooManyAllowedRanges, AllowedRangeOverlap, AllowedRangeOverlapsMemoryAccessHandler, TooManyMemoryAccessHandlerRegions, MemoryAccessHandlerRangeOverlap, UnknownMemoryHandler}
 use Rattle.stage2_range.specs.declared.Stage2Result.{Stage2Result}
 use Rattle.stage2_range.specs.declared.Stage2Result.the-variants.{Accepted, Refused}
 use Rattle.stage2_range.specs.declared.PageRange.{PageRange}
@@ -118,6 +120,14 @@ has-told ipa e f h = ap (λ (r : PageRange). hasByte r ipa) (sym f) ∙ sym e �
 
 shares-told : (s : PageRange) {r b : PageRange} {t v : Bool} → t ≡ sharesByte r s → r ≡ b → t ≡ v → sharesByte b s ≡ v
 shares-told s e f h = ap (λ (r : PageRange). sharesByte r s) (sym f) ∙ sym e ∙ h
+
+-- the end of a base and a size fits a word where the base does
+pub end-fits : (base size : ℕ) → FitsWord base → FitsWord (pageRange base size .«end_ipa»)
+end-fits base size f = go (ltb largestEnd (base + size)) refl
+  where
+    go : (b : Bool) → ltb largestEnd (base + size) ≡ b → FitsWord (cond b base (base + size))
+    go true e = f
+    go false e = omega (arith, ltb-false largestEnd (base + size) e)
 
 -- A valid base and size have as many bytes as the size says, from the base on.
 module _ (base size : ℕ) (v : ValidRange base size) where
@@ -233,6 +243,24 @@ valid-accepted base size v =
 pub validate-number : (base size : ℕ) → resultNumber (validateRange base size) ≡ firstMet errorNumber 0 (rangeCases base size)
 unfolding validateRange
 validate-number base size = answer-number (rangeCases base size)
+
+-- no refusal has the number 0
+pub error-not-zero : (e : Stage2ConfigError) → errorNumber e ≡ 0 → ⊥
+error-not-zero RangeBaseNotPageAligned h = omega arith
+error-not-zero EmptyRange h = omega arith
+error-not-zero RangeSizeNotPageMultiple h = omega arith
+error-not-zero RangeEndOverflow h = omega arith
+error-not-zero TooManyAllowedRanges h = omega arith
+error-not-zero AllowedRangeOverlap h = omega arith
+error-not-zero AllowedRangeOverlapsMemoryAccessHandler h = omega arith
+error-not-zero TooManyMemoryAccessHandlerRegions h = omega arith
+error-not-zero MemoryAccessHandlerRangeOverlap h = omega arith
+error-not-zero UnknownMemoryHandler h = omega arith
+
+-- so an answer with the number 0 accepts
+pub zero-accepted : (s : Stage2Result) → resultNumber s ≡ 0 → s ≡ Accepted
+zero-accepted Accepted e = refl
+zero-accepted (Refused error) e = absurd (error-not-zero error e)
 
 -- 18 exactly above 2^64 - 4,096
 pub aligned-number : (address : ℕ) → alignedNumber (alignUp address) ≡ cond (ltb (2 ^ 64 - 4096) address) 18 0
