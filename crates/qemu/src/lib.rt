@@ -15,7 +15,7 @@ pub struct FilteredRead {
 }
 
 impl FilteredRead {
-    fn new(result: MemoryReadResult, counter: u64) -> FilteredRead
+    fn new(result: MemoryReadResult, counter: u64) -> Self
         ensures { λ r. ⌜ r ≡ record { result = result; counter = counter } ⌝ }
     {
         FilteredRead { result, counter }
