@@ -3,7 +3,6 @@
 use crate::ffi;
 use crate::policy::Policy;
 use crate::refusal::{accepted, never_refused, Refusal};
-use crate::words;
 
 /// How many cores there are.
 pub const MAX_CORES: u64 = 8;
@@ -142,27 +141,27 @@ impl HvcReply {
 /// # Ok::<(), Refusal>(())
 /// ```
 #[derive(Clone, Debug, Eq, PartialEq)]
-pub struct Cores([u8; ffi::CORES_SIZE]);
+pub struct Cores(ffi::Cores);
 
 impl Cores {
     /// Fresh cores: all zero, waiting for nothing, the counter 0.
     #[must_use]
     pub fn new() -> Self {
-        let mut bytes = [0; ffi::CORES_SIZE];
-        never_refused(ffi::ritm_fresh_cores(&mut bytes));
-        Self(bytes)
+        let mut cores = ffi::Cores::ZERO;
+        never_refused(ffi::ritm_fresh_cores(&mut cores));
+        Self(cores)
     }
 
     /// The cores that stand in these bytes. Any bytes are some.
     #[must_use]
     pub fn from_bytes(bytes: [u8; ffi::CORES_SIZE]) -> Self {
-        Self(bytes)
+        Self(ffi::Cores::from_bytes(bytes))
     }
 
     /// Their bytes.
     #[must_use]
-    pub fn as_bytes(&self) -> &[u8; ffi::CORES_SIZE] {
-        &self.0
+    pub fn to_bytes(&self) -> [u8; ffi::CORES_SIZE] {
+        self.0.to_bytes()
     }
 
     /// Puts in a core's registers as the hardware saved them.
@@ -171,11 +170,11 @@ impl Cores {
     ///
     /// [`Refusal::NoSuchCore`], [`Refusal::CoreWaiting`].
     pub fn save(&mut self, core: u64, registers: &Registers) -> Result<(), Refusal> {
-        let mut bytes = [0; ffi::REGISTERS_SIZE];
-        words::put_all(&mut bytes, 0, &registers.x);
-        words::put(&mut bytes, ELR, registers.elr);
-        words::put(&mut bytes, SPSR, registers.spsr);
-        accepted(ffi::ritm_save(&mut self.0, core, &bytes))
+        let mut saved = ffi::Registers::ZERO;
+        saved.put_all(0, &registers.x);
+        saved.put(ELR, registers.elr);
+        saved.put(SPSR, registers.spsr);
+        accepted(ffi::ritm_save(&mut self.0, core, &saved))
     }
 
     /// Takes a core's trap.
@@ -184,17 +183,8 @@ impl Cores {
     ///
     /// Refusals 10 to 13, the first that applies.
     pub fn trap(&mut self, core: u64, policy: &Policy, trap: &TrapRegisters) -> Result<TrapAnswer, Refusal> {
-        let mut result = [0; ffi::TRAP_RESULT_SIZE];
-        accepted(ffi::ritm_trap(
-            policy.as_bytes(),
-            &mut self.0,
-            core,
-            trap.esr,
-            trap.fipa,
-            trap.far,
-            trap.vbar,
-            &mut result,
-        ))?;
+        let mut result = ffi::TrapResult::ZERO;
+        accepted(ffi::ritm_trap(&policy.0, &mut self.0, core, trap.esr, trap.fipa, trap.far, trap.vbar, &mut result))?;
         Ok(trap_answer(&result))
     }
 
@@ -205,10 +195,10 @@ impl Cores {
     /// [`Refusal::NoSuchCore`], [`Refusal::NothingWaiting`], and [`Refusal::UnknownReplyKind`]
     /// where the firmware is to answer with other than one value or an error.
     pub fn reply(&mut self, core: u64, reply: &HvcReply) -> Result<(), Refusal> {
-        let (kind, values, error) = reply.parts();
-        let mut bytes = [0; ffi::VALUES_SIZE];
-        words::put_all(&mut bytes, 0, values);
-        accepted(ffi::ritm_reply(&mut self.0, core, kind, &bytes, error))
+        let (kind, first, error) = reply.parts();
+        let mut values = ffi::Values::ZERO;
+        values.put_all(0, first);
+        accepted(ffi::ritm_reply(&mut self.0, core, kind, &values, error))
     }
 
     /// Reads a core's register: x0 to x30 by their index, and 0 for index 31.
@@ -217,9 +207,9 @@ impl Cores {
     ///
     /// [`Refusal::NoSuchCore`], [`Refusal::NoSuchRegister`].
     pub fn read_gpr(&self, core: u64, index: u64) -> Result<u64, Refusal> {
-        let mut word = [0; ffi::WORD_RESULT_SIZE];
+        let mut word = ffi::WordResult::ZERO;
         accepted(ffi::ritm_read_gpr(&self.0, core, index, &mut word))?;
-        Ok(u64::from_le_bytes(word))
+        Ok(word.get(0))
     }
 
     /// Writes a core's register, whether it waits or not; index 31 takes no write.
@@ -238,11 +228,7 @@ impl Cores {
     /// [`Refusal::NoSuchCore`].
     pub fn registers(&self, core: u64) -> Result<Registers, Refusal> {
         let start = core_start(core)?;
-        Ok(Registers {
-            x: words::get_all(&self.0, start),
-            elr: words::get(&self.0, start + ELR),
-            spsr: words::get(&self.0, start + SPSR),
-        })
+        Ok(Registers { x: self.0.get_all(start), elr: self.0.get(start + ELR), spsr: self.0.get(start + SPSR) })
     }
 
     /// A core's EL1 registers of the last injected abort.
@@ -251,7 +237,7 @@ impl Cores {
     ///
     /// [`Refusal::NoSuchCore`].
     pub fn fault_registers(&self, core: u64) -> Result<FaultRegisters, Refusal> {
-        let [elr, spsr, far, esr] = words::get_all(&self.0, core_start(core)? + FAULT_REGISTERS);
+        let [elr, spsr, far, esr] = self.0.get_all(core_start(core)? + FAULT_REGISTERS);
         Ok(FaultRegisters { elr, spsr, far, esr })
     }
 
@@ -261,7 +247,7 @@ impl Cores {
     ///
     /// [`Refusal::NoSuchCore`].
     pub fn wait(&self, core: u64) -> Result<Wait, Refusal> {
-        Ok(match words::get(&self.0, core_start(core)? + WAIT) {
+        Ok(match self.0.get(core_start(core)? + WAIT) {
             1 => Wait::Call(Conduit::Hvc, Recipient::Firmware),
             2 => Wait::Call(Conduit::Hvc, Recipient::Platform),
             3 => Wait::Call(Conduit::Smc, Recipient::Firmware),
@@ -273,7 +259,7 @@ impl Cores {
     /// The counter of the filtered MMIO page.
     #[must_use]
     pub fn counter(&self) -> u64 {
-        words::get(&self.0, COUNTER)
+        self.0.get(COUNTER)
     }
 }
 
@@ -293,13 +279,13 @@ fn core_start(core: u64) -> Result<usize, Refusal> {
 }
 
 /// The answer that stands in an accepted trap's result.
-fn trap_answer(result: &[u8; ffi::TRAP_RESULT_SIZE]) -> TrapAnswer {
-    match words::get(result, 0) {
+fn trap_answer(result: &ffi::TrapResult) -> TrapAnswer {
+    match result.get(0) {
         1 => TrapAnswer::LoadHandled,
         2 => TrapAnswer::StoreHandled,
         3 => TrapAnswer::AbortInjected,
-        4 => TrapAnswer::ToFirmware(words::get_all(result, 1)),
-        5 => TrapAnswer::ToPlatform(words::get_all(result, 1)),
+        4 => TrapAnswer::ToFirmware(result.get_all(1)),
+        5 => TrapAnswer::ToPlatform(result.get_all(1)),
         kind => unreachable!("the archive gives no trap of kind {kind}"),
     }
 }

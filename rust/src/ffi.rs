@@ -1,113 +1,190 @@
-//! The archive's functions as they are, on buffers of bytes; `include/ritm.h` says what each does.
+//! The archive's functions as they are, on buffers of 64-bit words; `include/ritm.h` says what each
+//! does.
 //!
-//! A reference to an array of bytes is the thin pointer that the archive takes. Its length is right
-//! by its type, and the buffers of one call cannot overlap, since Rust lends nothing beside what it
-//! lends to be changed. So there is nothing left for a caller to uphold, and each function is safe.
+//! A reference to a buffer is the thin pointer that the archive takes. Its alignment and its length
+//! are right by its type, and the buffers of one call cannot overlap, since Rust lends nothing
+//! beside what it lends to be changed. So there is nothing left for a caller to uphold, and each
+//! function is safe.
+//!
+//! ```
+//! use ritm::ffi;
+//!
+//! let mut found = ffi::FindResult::ZERO;
+//! assert_eq!(ffi::ritm_find(&ffi::Policy::ZERO, 0, &mut found), 0);
+//! ```
+//!
+//! Each buffer has a type of its own, so that none stands for another of the same length:
+//!
+//! ```compile_fail,E0308
+//! use ritm::ffi;
+//!
+//! let mut found = ffi::EntryResult::ZERO;
+//! assert_eq!(ffi::ritm_find(&ffi::Policy::ZERO, 0, &mut found), 0);
+//! ```
 
-/// The size of a policy in bytes.
-pub const POLICY_SIZE: usize = 1680;
-/// The size of the eight cores and the counter in bytes.
-pub const CORES_SIZE: usize = 2440;
-/// The size of a suspend map in bytes.
-pub const MAP_SIZE: usize = 256;
-/// The size of the registers of a save in bytes.
-pub const REGISTERS_SIZE: usize = 264;
-/// The size of the values of a reply in bytes.
-pub const VALUES_SIZE: usize = 144;
-/// The size of a trap's result in bytes.
-pub const TRAP_RESULT_SIZE: usize = 152;
-/// The size of the result of a search for a region in bytes.
-pub const FIND_RESULT_SIZE: usize = 24;
-/// The size of the result of a look-up in the suspend map in bytes.
-pub const ENTRY_RESULT_SIZE: usize = 24;
-/// The size of a decoded access in bytes.
-pub const ACCESS_RESULT_SIZE: usize = 48;
-/// The size of a result of one word in bytes.
-pub const WORD_RESULT_SIZE: usize = 8;
+use core::array;
+
+/// Defines each buffer once: its type, its size in bytes, and what it holds.
+macro_rules! buffers {
+    ($($buffer:ident, $bytes:ident = $size:literal, $what:literal;)*) => {
+        $(
+            #[doc = concat!("The size of ", $what, " in bytes.")]
+            pub const $bytes: usize = $size;
+
+            #[doc = concat!("The buffer of ", $what, ".")]
+            #[derive(Clone, Debug, Eq, PartialEq)]
+            #[repr(C)]
+            pub struct $buffer {
+                /// Little-endian, whatever the byte order of the machine.
+                words: [u64; $size / 8],
+            }
+
+            impl $buffer {
+                /// Zeros.
+                pub const ZERO: Self = Self { words: [0; $size / 8] };
+
+                /// The buffer of these bytes.
+                #[must_use]
+                pub fn from_bytes(bytes: [u8; $size]) -> Self {
+                    Self { words: array::from_fn(|k| u64::from_ne_bytes(array::from_fn(|i| bytes[8 * k + i]))) }
+                }
+
+                /// Its bytes.
+                #[must_use]
+                pub fn to_bytes(&self) -> [u8; $size] {
+                    array::from_fn(|i| self.words[i / 8].to_ne_bytes()[i % 8])
+                }
+
+                /// Word `k`: the bytes from `8 * k` on.
+                #[must_use]
+                pub fn get(&self, k: usize) -> u64 {
+                    u64::from_le(self.words[k])
+                }
+
+                /// Sets word `k`.
+                pub fn put(&mut self, k: usize, word: u64) {
+                    self.words[k] = word.to_le();
+                }
+
+                /// The `N` words from word `k` on.
+                #[must_use]
+                pub fn get_all<const N: usize>(&self, k: usize) -> [u64; N] {
+                    array::from_fn(|i| self.get(k + i))
+                }
+
+                /// Sets the words from word `k` on.
+                pub fn put_all(&mut self, k: usize, words: &[u64]) {
+                    for (i, word) in words.iter().enumerate() {
+                        self.put(k + i, *word);
+                    }
+                }
+            }
+
+            impl From<[u64; $size / 8]> for $buffer {
+                fn from(words: [u64; $size / 8]) -> Self {
+                    Self { words: words.map(u64::to_le) }
+                }
+            }
+
+            impl From<$buffer> for [u64; $size / 8] {
+                fn from(buffer: $buffer) -> Self {
+                    buffer.words.map(u64::from_le)
+                }
+            }
+        )*
+
+        #[test]
+        fn buffers_are_aligned_and_keep_their_bytes() {
+            $(
+                assert_eq!((align_of::<$buffer>(), size_of::<$buffer>()), (8, $bytes));
+                let bytes = array::from_fn(|i| i as u8 ^ 0xa5);
+                let buffer = $buffer::from_bytes(bytes);
+                assert_eq!(buffer.to_bytes(), bytes);
+                assert_eq!(buffer.get(0) as u8, bytes[0]);
+            )*
+        }
+    };
+}
+
+buffers! {
+    Policy, POLICY_SIZE = 1680, "a policy";
+    Cores, CORES_SIZE = 2440, "the eight cores and the counter";
+    SuspendMap, MAP_SIZE = 256, "a suspend map";
+    Registers, REGISTERS_SIZE = 264, "the registers of a save";
+    Values, VALUES_SIZE = 144, "the values of a reply";
+    TrapResult, TRAP_RESULT_SIZE = 152, "a trap's result";
+    FindResult, FIND_RESULT_SIZE = 24, "the result of a search for a region";
+    EntryResult, ENTRY_RESULT_SIZE = 24, "the result of a look-up in the suspend map";
+    AccessResult, ACCESS_RESULT_SIZE = 48, "a decoded access";
+    WordResult, WORD_RESULT_SIZE = 8, "a result of one word";
+}
 
 // SAFETY: the functions have these signatures in C's calling convention. They are proved to be
 // defined for every argument, to write nothing but the buffers lent to be changed, and to keep no
 // pointer.
 unsafe extern "C" {
     /// Makes the policy fresh.
-    pub safe fn ritm_fresh_policy(policy: &mut [u8; POLICY_SIZE]) -> u64;
+    pub safe fn ritm_fresh_policy(policy: &mut Policy) -> u64;
 
     /// Allows a range.
-    pub safe fn ritm_allow_range(policy: &mut [u8; POLICY_SIZE], base_ipa: u64, size: u64, attributes: u64) -> u64;
+    pub safe fn ritm_allow_range(policy: &mut Policy, base_ipa: u64, size: u64, attributes: u64) -> u64;
 
     /// Has a range handled.
-    pub safe fn ritm_handle_range(
-        policy: &mut [u8; POLICY_SIZE],
-        base_ipa: u64,
-        size: u64,
-        read: u64,
-        write: u64,
-    ) -> u64;
+    pub safe fn ritm_handle_range(policy: &mut Policy, base_ipa: u64, size: u64, read: u64, write: u64) -> u64;
 
     /// Finds the region that has an address.
-    pub safe fn ritm_find(policy: &[u8; POLICY_SIZE], ipa: u64, found: &mut [u8; FIND_RESULT_SIZE]) -> u64;
+    pub safe fn ritm_find(policy: &Policy, ipa: u64, found: &mut FindResult) -> u64;
 
     /// Makes the cores and the counter fresh.
-    pub safe fn ritm_fresh_cores(cores: &mut [u8; CORES_SIZE]) -> u64;
+    pub safe fn ritm_fresh_cores(cores: &mut Cores) -> u64;
 
     /// Puts in a core's registers.
-    pub safe fn ritm_save(cores: &mut [u8; CORES_SIZE], core: u64, registers: &[u8; REGISTERS_SIZE]) -> u64;
+    pub safe fn ritm_save(cores: &mut Cores, core: u64, registers: &Registers) -> u64;
 
     /// Takes a core's trap.
     pub safe fn ritm_trap(
-        policy: &[u8; POLICY_SIZE],
-        cores: &mut [u8; CORES_SIZE],
+        policy: &Policy,
+        cores: &mut Cores,
         core: u64,
         esr: u64,
         fipa: u64,
         far: u64,
         vbar: u64,
-        trapped: &mut [u8; TRAP_RESULT_SIZE],
+        trapped: &mut TrapResult,
     ) -> u64;
 
     /// Gives a core the reply that it waits for.
-    pub safe fn ritm_reply(
-        cores: &mut [u8; CORES_SIZE],
-        core: u64,
-        kind: u64,
-        values: &[u8; VALUES_SIZE],
-        error: i32,
-    ) -> u64;
+    pub safe fn ritm_reply(cores: &mut Cores, core: u64, kind: u64, values: &Values, error: i32) -> u64;
 
     /// Reads a core's register.
-    pub safe fn ritm_read_gpr(
-        cores: &[u8; CORES_SIZE],
-        core: u64,
-        index: u64,
-        word: &mut [u8; WORD_RESULT_SIZE],
-    ) -> u64;
+    pub safe fn ritm_read_gpr(cores: &Cores, core: u64, index: u64, word: &mut WordResult) -> u64;
 
     /// Writes a core's register.
-    pub safe fn ritm_write_gpr(cores: &mut [u8; CORES_SIZE], core: u64, index: u64, value: u64) -> u64;
+    pub safe fn ritm_write_gpr(cores: &mut Cores, core: u64, index: u64, value: u64) -> u64;
 
     /// Makes the suspend map fresh.
-    pub safe fn ritm_fresh_map(map: &mut [u8; MAP_SIZE]) -> u64;
+    pub safe fn ritm_fresh_map(map: &mut SuspendMap) -> u64;
 
     /// Inserts into the suspend map.
-    pub safe fn ritm_insert(map: &mut [u8; MAP_SIZE], key: u64, entry_point: u64, context_id: u64) -> u64;
+    pub safe fn ritm_insert(map: &mut SuspendMap, key: u64, entry_point: u64, context_id: u64) -> u64;
 
     /// Looks up a key in the suspend map.
-    pub safe fn ritm_get(map: &[u8; MAP_SIZE], key: u64, entry: &mut [u8; ENTRY_RESULT_SIZE]) -> u64;
+    pub safe fn ritm_get(map: &SuspendMap, key: u64, entry: &mut EntryResult) -> u64;
 
     /// Removes a key from the suspend map.
-    pub safe fn ritm_remove(map: &mut [u8; MAP_SIZE], key: u64, entry: &mut [u8; ENTRY_RESULT_SIZE]) -> u64;
+    pub safe fn ritm_remove(map: &mut SuspendMap, key: u64, entry: &mut EntryResult) -> u64;
 
     /// Decodes the access of a data abort.
-    pub safe fn ritm_decode(iss: u32, fipa: u64, far: u64, access: &mut [u8; ACCESS_RESULT_SIZE]) -> u64;
+    pub safe fn ritm_decode(iss: u32, fipa: u64, far: u64, access: &mut AccessResult) -> u64;
 
     /// Extends a loaded value.
-    pub safe fn ritm_extend_read_result(iss: u32, value: u64, word: &mut [u8; WORD_RESULT_SIZE]) -> u64;
+    pub safe fn ritm_extend_read_result(iss: u32, value: u64, word: &mut WordResult) -> u64;
 
     /// Rounds down to a page boundary.
-    pub safe fn ritm_align_down_to_page(address: u64, word: &mut [u8; WORD_RESULT_SIZE]) -> u64;
+    pub safe fn ritm_align_down_to_page(address: u64, word: &mut WordResult) -> u64;
 
     /// Rounds up to a page boundary.
-    pub safe fn ritm_align_up_to_page(address: u64, word: &mut [u8; WORD_RESULT_SIZE]) -> u64;
+    pub safe fn ritm_align_up_to_page(address: u64, word: &mut WordResult) -> u64;
 
     /// The size of a buffer by its number.
     pub safe fn ritm_buffer_size(buffer: u64) -> u64;

@@ -1,17 +1,18 @@
 //! Malfroek for hosts in Rust: RITM's stage-2 policy, guest traps and suspend map, as a proved
 //! static archive behind safe types.
 //!
-//! State stands in [`Policy`], [`Cores`] and [`SuspendMap`], each an array of bytes with a fixed
-//! layout that `include/ritm.h` gives. Each call answers, or is refused with a [`Refusal`] and then
-//! changes nothing.
+//! State stands in [`Policy`], [`Cores`] and [`SuspendMap`], each of 64-bit words at fixed places,
+//! which `include/ritm.h` gives. Each call answers, or is refused with a [`Refusal`] and then changes
+//! nothing.
 //!
 //! The archive has no data of its own: a call reads and writes what it is lent. Where several
 //! processors take traps, [`Cores`] as a whole stands behind one lock, since its counter is one for
 //! all cores, and so does a [`SuspendMap`]; a [`Policy`] that nothing changes any more may be shared.
 //!
 //! The build links `libritm.a` from the folder that the environment variable `RITM_LIB_DIR` names,
-//! by default `target/staticlib` beside this crate, where `rt staticlib ritm` puts it. It is made
-//! for x86-64 Linux.
+//! by default from where `board/build-archive` writes it beside this crate: `target/staticlib` for
+//! x86-64, and `target/staticlib/aarch64` for 64-bit Arm. The latter is compiled from the same
+//! proved module; that LLVM's AArch64 back end compiles it rightly is trusted.
 
 #![no_std]
 #![deny(missing_docs, unsafe_code, unsafe_op_in_unsafe_fn)]
@@ -23,7 +24,6 @@ mod memory_access;
 mod policy;
 mod refusal;
 mod suspend_map;
-mod words;
 
 pub use cores::{
     Conduit, Cores, FaultRegisters, HvcReply, Recipient, Registers, TrapAnswer, TrapRegisters, Wait, MAX_CORES,
@@ -86,7 +86,7 @@ mod tests {
         assert!(policy.allowed_ranges().map(|range| range.attributes).eq([0x7fd, 0x4c1]));
         assert!(policy.regions().map(|region| region.end_ipa).eq([0x9000, 0xa000]));
         assert_eq!(policy.regions().next().map(|region| region.handler), Some(read_only));
-        assert_eq!(Policy::from_bytes(*policy.as_bytes()), policy);
+        assert_eq!(Policy::from_bytes(policy.to_bytes()), policy);
     }
 
     #[test]

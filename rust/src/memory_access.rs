@@ -2,7 +2,6 @@
 
 use crate::ffi;
 use crate::refusal::{accepted, never_refused, Refusal};
-use crate::words;
 
 /// The direction of an access.
 #[derive(Clone, Copy, Debug, Eq, PartialEq)]
@@ -36,9 +35,9 @@ pub struct MemoryAccess {
 ///
 /// [`Refusal::NoSyndrome`].
 pub fn decode(iss: u32, fipa: u64, far: u64) -> Result<MemoryAccess, Refusal> {
-    let mut result = [0; ffi::ACCESS_RESULT_SIZE];
+    let mut result = ffi::AccessResult::ZERO;
     accepted(ffi::ritm_decode(iss, fipa, far, &mut result))?;
-    let [ipa, width, wnr, register_index, sse, sf] = words::get_all(&result, 0);
+    let [ipa, width, wnr, register_index, sse, sf] = result.get_all(0);
     Ok(MemoryAccess {
         ipa,
         width,
@@ -55,17 +54,17 @@ pub fn decode(iss: u32, fipa: u64, far: u64) -> Result<MemoryAccess, Refusal> {
 ///
 /// [`Refusal::NoSyndrome`].
 pub fn extend_read_result(iss: u32, value: u64) -> Result<u64, Refusal> {
-    let mut word = [0; ffi::WORD_RESULT_SIZE];
+    let mut word = ffi::WordResult::ZERO;
     accepted(ffi::ritm_extend_read_result(iss, value, &mut word))?;
-    Ok(u64::from_le_bytes(word))
+    Ok(word.get(0))
 }
 
 /// Rounds an address down to a page boundary.
 #[must_use]
 pub fn align_down_to_page(address: u64) -> u64 {
-    let mut word = [0; ffi::WORD_RESULT_SIZE];
+    let mut word = ffi::WordResult::ZERO;
     never_refused(ffi::ritm_align_down_to_page(address, &mut word));
-    u64::from_le_bytes(word)
+    word.get(0)
 }
 
 /// Rounds an address up to a page boundary.
@@ -74,7 +73,7 @@ pub fn align_down_to_page(address: u64) -> u64 {
 ///
 /// [`Refusal::NoPageAbove`].
 pub fn align_up_to_page(address: u64) -> Result<u64, Refusal> {
-    let mut word = [0; ffi::WORD_RESULT_SIZE];
+    let mut word = ffi::WordResult::ZERO;
     accepted(ffi::ritm_align_up_to_page(address, &mut word))?;
-    Ok(u64::from_le_bytes(word))
+    Ok(word.get(0))
 }

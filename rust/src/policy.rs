@@ -2,7 +2,6 @@
 
 use crate::ffi;
 use crate::refusal::{accepted, never_refused, Refusal};
-use crate::words;
 
 /// The most ranges that a policy allows.
 pub const MAX_ALLOWED_RANGES: usize = 32;
@@ -99,27 +98,27 @@ pub struct RegionMatch {
 /// # Ok::<(), Refusal>(())
 /// ```
 #[derive(Clone, Debug, Eq, PartialEq)]
-pub struct Policy([u8; ffi::POLICY_SIZE]);
+pub struct Policy(pub(crate) ffi::Policy);
 
 impl Policy {
     /// The fresh policy: no range, no region.
     #[must_use]
     pub fn new() -> Self {
-        let mut bytes = [0; ffi::POLICY_SIZE];
-        never_refused(ffi::ritm_fresh_policy(&mut bytes));
-        Self(bytes)
+        let mut policy = ffi::Policy::ZERO;
+        never_refused(ffi::ritm_fresh_policy(&mut policy));
+        Self(policy)
     }
 
     /// The policy that stands in these bytes. Any bytes are one.
     #[must_use]
     pub fn from_bytes(bytes: [u8; ffi::POLICY_SIZE]) -> Self {
-        Self(bytes)
+        Self(ffi::Policy::from_bytes(bytes))
     }
 
     /// Its bytes.
     #[must_use]
-    pub fn as_bytes(&self) -> &[u8; ffi::POLICY_SIZE] {
-        &self.0
+    pub fn to_bytes(&self) -> [u8; ffi::POLICY_SIZE] {
+        self.0.to_bytes()
     }
 
     /// Allows the guest direct access to a range, with any attribute word.
@@ -143,16 +142,16 @@ impl Policy {
     /// The first region that has the address.
     #[must_use]
     pub fn find(&self, ipa: u64) -> Option<RegionMatch> {
-        let mut result = [0; ffi::FIND_RESULT_SIZE];
+        let mut result = ffi::FindResult::ZERO;
         never_refused(ffi::ritm_find(&self.0, ipa, &mut result));
-        let [found, index, offset] = words::get_all(&result, 0);
+        let [found, index, offset] = result.get_all(0);
         (found == 1).then_some(RegionMatch { index: index as usize, offset })
     }
 
     /// The allowed ranges, in order of arrival: what the host writes into its page tables.
     pub fn allowed_ranges(&self) -> impl Iterator<Item = Stage2Range> + '_ {
         (0..self.count(ALLOWED_COUNT, MAX_ALLOWED_RANGES)).map(|k| {
-            let [base_ipa, size, end_ipa, attributes] = words::get_all(&self.0, k * ALLOWED_WORDS);
+            let [base_ipa, size, end_ipa, attributes] = self.0.get_all(k * ALLOWED_WORDS);
             Stage2Range { base_ipa, size, end_ipa, attributes }
         })
     }
@@ -160,7 +159,7 @@ impl Policy {
     /// The handled regions, ascending by base.
     pub fn regions(&self) -> impl Iterator<Item = MemoryAccessRegion> + '_ {
         (0..self.count(REGION_COUNT, MAX_MEMORY_ACCESS_HANDLERS)).map(|k| {
-            let [base_ipa, size, end_ipa, read, write] = words::get_all(&self.0, REGIONS + k * REGION_WORDS);
+            let [base_ipa, size, end_ipa, read, write] = self.0.get_all(REGIONS + k * REGION_WORDS);
             MemoryAccessRegion {
                 base_ipa,
                 size,
@@ -175,7 +174,7 @@ impl Policy {
 
     /// A stored count; one above its limit reads as the limit.
     fn count(&self, place: usize, limit: usize) -> usize {
-        words::get(&self.0, place).min(limit as u64) as usize
+        self.0.get(place).min(limit as u64) as usize
     }
 }
 

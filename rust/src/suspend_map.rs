@@ -2,7 +2,6 @@
 
 use crate::ffi;
 use crate::refusal::{accepted, never_refused, Refusal};
-use crate::words;
 
 /// Where a suspended core resumes, and with what.
 #[derive(Clone, Copy, Debug, Eq, PartialEq)]
@@ -29,27 +28,27 @@ pub struct SuspendCoreData {
 /// # Ok::<(), Refusal>(())
 /// ```
 #[derive(Clone, Debug, Eq, PartialEq)]
-pub struct SuspendMap([u8; ffi::MAP_SIZE]);
+pub struct SuspendMap(ffi::SuspendMap);
 
 impl SuspendMap {
     /// The fresh map: every place free.
     #[must_use]
     pub fn new() -> Self {
-        let mut bytes = [0; ffi::MAP_SIZE];
-        never_refused(ffi::ritm_fresh_map(&mut bytes));
-        Self(bytes)
+        let mut map = ffi::SuspendMap::ZERO;
+        never_refused(ffi::ritm_fresh_map(&mut map));
+        Self(map)
     }
 
     /// The map that stands in these bytes. Any bytes are one.
     #[must_use]
     pub fn from_bytes(bytes: [u8; ffi::MAP_SIZE]) -> Self {
-        Self(bytes)
+        Self(ffi::SuspendMap::from_bytes(bytes))
     }
 
     /// Its bytes.
     #[must_use]
-    pub fn as_bytes(&self) -> &[u8; ffi::MAP_SIZE] {
-        &self.0
+    pub fn to_bytes(&self) -> [u8; ffi::MAP_SIZE] {
+        self.0.to_bytes()
     }
 
     /// Removes the first entry with the key, then puts the new one into the first free place.
@@ -64,14 +63,14 @@ impl SuspendMap {
     /// Looks up the first entry with the key.
     #[must_use]
     pub fn get(&self, key: u64) -> Option<SuspendCoreData> {
-        let mut result = [0; ffi::ENTRY_RESULT_SIZE];
+        let mut result = ffi::EntryResult::ZERO;
         never_refused(ffi::ritm_get(&self.0, key, &mut result));
         entry(&result)
     }
 
     /// Removes the first entry with the key, and gives it.
     pub fn remove(&mut self, key: u64) -> Option<SuspendCoreData> {
-        let mut result = [0; ffi::ENTRY_RESULT_SIZE];
+        let mut result = ffi::EntryResult::ZERO;
         never_refused(ffi::ritm_remove(&mut self.0, key, &mut result));
         entry(&result)
     }
@@ -83,7 +82,7 @@ impl Default for SuspendMap {
     }
 }
 
-fn entry(result: &[u8; ffi::ENTRY_RESULT_SIZE]) -> Option<SuspendCoreData> {
-    let [found, entry_point, context_id] = words::get_all(result, 0);
+fn entry(result: &ffi::EntryResult) -> Option<SuspendCoreData> {
+    let [found, entry_point, context_id] = result.get_all(0);
     (found == 1).then_some(SuspendCoreData { entry_point, context_id })
 }

@@ -37,7 +37,6 @@ mod policy;
 mod registers;
 mod side;
 mod traps;
-mod words;
 
 use cases::{CASES, Case};
 use side::{Side, Sides};

@@ -1,7 +1,6 @@
 //! The suspend map.
 
 use crate::side::{Call, Sides, State};
-use crate::words;
 use reference::hypervisor::SuspendMap;
 use ritm::ffi;
 use std::ptr;
@@ -11,10 +10,10 @@ const ENTRY_POINT: u64 = 0x4020_0000;
 const CONTEXT_ID: u64 = 7;
 const PLACES: usize = 8;
 
-type InsertFunction = extern "C" fn(&mut [u8; ffi::MAP_SIZE], u64, u64, u64) -> u64;
-type GetFunction = extern "C" fn(&[u8; ffi::MAP_SIZE], u64, &mut [u8; ffi::ENTRY_RESULT_SIZE]) -> u64;
-type RemoveFunction = extern "C" fn(&mut [u8; ffi::MAP_SIZE], u64, &mut [u8; ffi::ENTRY_RESULT_SIZE]) -> u64;
-type FreshFunction = extern "C" fn(&mut [u8; ffi::MAP_SIZE]) -> u64;
+type InsertFunction = extern "C" fn(&mut ffi::SuspendMap, u64, u64, u64) -> u64;
+type GetFunction = extern "C" fn(&ffi::SuspendMap, u64, &mut ffi::EntryResult) -> u64;
+type RemoveFunction = extern "C" fn(&mut ffi::SuspendMap, u64, &mut ffi::EntryResult) -> u64;
+type FreshFunction = extern "C" fn(&mut ffi::SuspendMap) -> u64;
 type RustInsert = fn(&mut SuspendMap, u64, (u64, u64)) -> &mut (u64, u64);
 type RustGet = for<'a> fn(&'a mut SuspendMap, &u64) -> Option<&'a mut (u64, u64)>;
 type RustRemove = fn(&mut SuspendMap, &u64) -> Option<(u64, u64)>;
@@ -22,19 +21,19 @@ type RustRemove = fn(&mut SuspendMap, &u64) -> Option<(u64, u64)>;
 /// The port's map, and the arguments.
 #[derive(Clone)]
 struct PortMap {
-    map: [u8; ffi::MAP_SIZE],
+    map: ffi::SuspendMap,
     key: u64,
-    entry: [u8; ffi::ENTRY_RESULT_SIZE],
+    entry: ffi::EntryResult,
 }
 
 impl PortMap {
     fn new(count: u64, key: u64) -> Self {
-        let mut map = [0; ffi::MAP_SIZE];
+        let mut map = ffi::SuspendMap::ZERO;
         assert_eq!(ffi::ritm_fresh_map(&mut map), 0, "a fresh map");
         for key in FIRST_KEY..FIRST_KEY + count {
             assert_eq!(ffi::ritm_insert(&mut map, key, key + 1, key + 2), 0, "an entry fits");
         }
-        Self { map, key, entry: [0; ffi::ENTRY_RESULT_SIZE] }
+        Self { map, key, entry: ffi::EntryResult::ZERO }
     }
 }
 
@@ -42,11 +41,11 @@ impl State for PortMap {
     const BATCH: usize = 64;
 
     fn put_back(&mut self, before: &Self) {
-        self.map = before.map;
+        self.map.clone_from(&before.map);
     }
 
     fn words(&self) -> Vec<u64> {
-        let places = (0..PLACES).map(|place| words::get::<4>(&self.map, 4 * place));
+        let places = (0..PLACES).map(|place| self.map.get_all::<4>(4 * place));
         places.flat_map(|place| if place[0] == 1 { place } else { [0; 4] }).collect()
     }
 }
@@ -125,7 +124,7 @@ pub fn get(count: u64) -> Sides {
         state: PortMap::new(count, key),
         function: ffi::ritm_get as GetFunction,
         call: |state: &mut PortMap, function| function(&state.map, state.key, &mut state.entry),
-        answer: |state, number| [&[number][..], &words::get::<3>(&state.entry, 0)].concat(),
+        answer: |state, number| [&[number][..], &state.entry.get_all::<3>(0)].concat(),
     };
     let rust = Call {
         state: RustMap::new(count, key),
@@ -145,7 +144,7 @@ pub fn remove(count: u64) -> Sides {
         state: PortMap::new(count, key),
         function: ffi::ritm_remove as RemoveFunction,
         call: |state: &mut PortMap, function| function(&mut state.map, state.key, &mut state.entry),
-        answer: |state, number| [&[number][..], &words::get::<3>(&state.entry, 0)].concat(),
+        answer: |state, number| [&[number][..], &state.entry.get_all::<3>(0)].concat(),
     };
     let rust = Call {
         state: RustMap::new(count, key),

@@ -1,7 +1,6 @@
 //! The calls without state.
 
 use crate::side::{Call, Sides, State};
-use crate::words;
 use memory_access::{MemoryAccess, MemoryAccessKind};
 use reference::stage2::{align_down_to_page, align_up_to_page};
 use ritm::ffi;
@@ -13,9 +12,9 @@ const LOAD_SIGNED: u32 = 1 << 24 | 1 << 22 | 1 << 21 | 5 << 16;
 const IPA: u64 = 0x0f00_0018;
 const VALUE: u64 = 0xfedc_ba98_7654_f321;
 
-type DecodeFunction = extern "C" fn(u32, u64, u64, &mut [u8; ffi::ACCESS_RESULT_SIZE]) -> u64;
-type ExtendFunction = extern "C" fn(u32, u64, &mut [u8; ffi::WORD_RESULT_SIZE]) -> u64;
-type AlignFunction = extern "C" fn(u64, &mut [u8; ffi::WORD_RESULT_SIZE]) -> u64;
+type DecodeFunction = extern "C" fn(u32, u64, u64, &mut ffi::AccessResult) -> u64;
+type ExtendFunction = extern "C" fn(u32, u64, &mut ffi::WordResult) -> u64;
+type AlignFunction = extern "C" fn(u64, &mut ffi::WordResult) -> u64;
 type RustDecode = fn(u32, u64, u64) -> Option<MemoryAccess>;
 type RustExtend = fn(&MemoryAccess, u64) -> u64;
 type RustAlign = fn(usize) -> usize;
@@ -29,23 +28,15 @@ struct Numbers {
     number: u64,
     /// The access of the ISS, as RITM's `extend_read_result` takes it.
     decoded: &'static MemoryAccess,
-    access: [u8; ffi::ACCESS_RESULT_SIZE],
-    word: [u8; ffi::WORD_RESULT_SIZE],
+    access: ffi::AccessResult,
+    word: ffi::WordResult,
 }
 
 impl Numbers {
     fn new(iss: u32, number: u64) -> Self {
         let (fipa, far) = (IPA >> 12, IPA & 0xfff);
         let decoded = Box::leak(Box::new(decoded(iss, fipa, far).expect("ISV is set")));
-        Self {
-            iss,
-            fipa,
-            far,
-            number,
-            decoded,
-            access: [0; ffi::ACCESS_RESULT_SIZE],
-            word: [0; ffi::WORD_RESULT_SIZE],
-        }
+        Self { iss, fipa, far, number, decoded, access: ffi::AccessResult::ZERO, word: ffi::WordResult::ZERO }
     }
 }
 
@@ -67,7 +58,7 @@ pub fn decode() -> Sides {
         state: Numbers::new(LOAD, 0),
         function: ffi::ritm_decode as DecodeFunction,
         call: |state: &mut Numbers, function| function(state.iss, state.fipa, state.far, &mut state.access),
-        answer: |state, number| [&[number][..], &words::get::<6>(&state.access, 0)].concat(),
+        answer: |state, number| [&[number][..], &state.access.get_all::<6>(0)].concat(),
     };
     let rust = Call {
         state: Numbers::new(LOAD, 0),
@@ -89,7 +80,7 @@ fn extend_by(iss: u32) -> Sides {
         state: Numbers::new(iss, VALUE),
         function: ffi::ritm_extend_read_result as ExtendFunction,
         call: |state: &mut Numbers, function| function(state.iss, state.number, &mut state.word),
-        answer: |state, number| [[number], words::get(&state.word, 0)].concat(),
+        answer: |state, number| vec![number, state.word.get(0)],
     };
     let rust = Call {
         state: Numbers::new(iss, VALUE),
@@ -115,7 +106,7 @@ fn align(port: AlignFunction, rust: RustAlign) -> Sides {
         state: Numbers::new(LOAD, IPA),
         function: port,
         call: |state: &mut Numbers, function: AlignFunction| function(state.number, &mut state.word),
-        answer: |state, number| [[number], words::get(&state.word, 0)].concat(),
+        answer: |state, number| vec![number, state.word.get(0)],
     };
     let rust = Call {
         state: Numbers::new(LOAD, IPA),

@@ -1,7 +1,6 @@
 //! The builder's calls, and the search for a region.
 
 use crate::side::{Call, Sides, State};
-use crate::words;
 use reference::aarch64_paging::descriptor::Stage2Attributes;
 use reference::oracle;
 use reference::platform::qemu;
@@ -21,11 +20,10 @@ const OVERLAP: u64 = 6;
 
 const HANDLER: MemoryAccessHandler = MemoryAccessHandler::read_write(qemu::READ, qemu::WRITE);
 
-type Policy64 = [u8; ffi::POLICY_SIZE];
-type AllowFunction = extern "C" fn(&mut Policy64, u64, u64, u64) -> u64;
-type HandleFunction = extern "C" fn(&mut Policy64, u64, u64, u64, u64) -> u64;
-type FindFunction = extern "C" fn(&Policy64, u64, &mut [u8; ffi::FIND_RESULT_SIZE]) -> u64;
-type FreshFunction = extern "C" fn(&mut Policy64) -> u64;
+type AllowFunction = extern "C" fn(&mut ffi::Policy, u64, u64, u64) -> u64;
+type HandleFunction = extern "C" fn(&mut ffi::Policy, u64, u64, u64, u64) -> u64;
+type FindFunction = extern "C" fn(&ffi::Policy, u64, &mut ffi::FindResult) -> u64;
+type FreshFunction = extern "C" fn(&mut ffi::Policy) -> u64;
 type RustAllow = fn(&mut Stage2Builder, u64, usize, Stage2Attributes) -> Result<(), Stage2ConfigError>;
 type RustHandle = fn(&mut Stage2Builder, u64, usize, MemoryAccessHandler) -> Result<(), Stage2ConfigError>;
 type RustFind = fn(&MemoryAccessHandlerRegistry, u64) -> Option<MemoryAccessHandlerMatch>;
@@ -46,8 +44,8 @@ fn bases(ranges: u64, regions: u64) -> (impl Iterator<Item = u64>, impl Iterator
 }
 
 /// The port's policy with so many ranges and regions.
-pub fn port_with(ranges: u64, regions: u64) -> Policy64 {
-    let mut policy = [0; ffi::POLICY_SIZE];
+pub fn port_with(ranges: u64, regions: u64) -> ffi::Policy {
+    let mut policy = ffi::Policy::ZERO;
     assert_eq!(ffi::ritm_fresh_policy(&mut policy), 0, "a fresh policy");
     let (ranges, regions) = bases(ranges, regions);
     for base in ranges {
@@ -76,17 +74,17 @@ pub fn rust_with(ranges: u64, regions: u64) -> Stage2Builder {
 /// The port's policy, and the base of a call.
 #[derive(Clone)]
 struct PortPolicy {
-    policy: Policy64,
+    policy: ffi::Policy,
     base: u64,
 }
 
 impl State for PortPolicy {
     fn put_back(&mut self, before: &Self) {
-        self.policy = before.policy;
+        self.policy.clone_from(&before.policy);
     }
 
     fn words(&self) -> Vec<u64> {
-        let policy = Policy::from_bytes(self.policy);
+        let policy = Policy::from_bytes(self.policy.to_bytes());
         let ranges = policy.allowed_ranges().flat_map(|range| [range.base_ipa, range.size, range.end_ipa]);
         let regions = policy.regions().flat_map(|region| {
             let halves = [region.handler.read as u64, region.handler.write as u64];
@@ -199,9 +197,9 @@ pub fn handle_below(ranges: u64, regions: u64) -> Sides {
 /// The port's search.
 #[derive(Clone)]
 struct PortSearch {
-    policy: &'static Policy64,
+    policy: &'static ffi::Policy,
     ipa: u64,
-    found: [u8; ffi::FIND_RESULT_SIZE],
+    found: ffi::FindResult,
 }
 
 impl State for PortSearch {
@@ -229,9 +227,10 @@ impl State for Search {
 
 /// The result as both sides have it: whether a region was found, its base, and the offset.
 fn found_by_port(state: &PortSearch) -> [u64; 3] {
-    match words::get(&state.found, 0) {
+    match state.found.get_all(0) {
         [1, index, offset] => {
-            let region = Policy::from_bytes(*state.policy).regions().nth(index as usize).expect("a region is there");
+            let policy = Policy::from_bytes(state.policy.to_bytes());
+            let region = policy.regions().nth(index as usize).expect("a region is there");
             [1, region.base_ipa, offset]
         }
         other => other,
@@ -241,7 +240,7 @@ fn found_by_port(state: &PortSearch) -> [u64; 3] {
 fn find(regions: u64, ipa: u64, found: bool) -> Sides {
     let policy = Box::leak(Box::new(port_with(0, regions)));
     let port = Call {
-        state: PortSearch { policy, ipa, found: [0; ffi::FIND_RESULT_SIZE] },
+        state: PortSearch { policy, ipa, found: ffi::FindResult::ZERO },
         function: ffi::ritm_find as FindFunction,
         call: |state: &mut PortSearch, function| function(state.policy, state.ipa, &mut state.found),
         answer: |state, number| [&[number][..], &found_by_port(state)].concat(),

@@ -1,15 +1,14 @@
 //! A core's registers, read and written one by one.
 
 use crate::side::{Call, Sides, State};
-use crate::words;
 use reference::aarch64_rt::RegisterState;
 use reference::exceptions::{GuestRegisterStateRef, GuestRegisterWriteError, GuestRegisters};
 use ritm::ffi;
 
 const WRITTEN: u64 = 0x55aa;
 
-type ReadFunction = extern "C" fn(&[u8; ffi::CORES_SIZE], u64, u64, &mut [u8; ffi::WORD_RESULT_SIZE]) -> u64;
-type WriteFunction = extern "C" fn(&mut [u8; ffi::CORES_SIZE], u64, u64, u64) -> u64;
+type ReadFunction = extern "C" fn(&ffi::Cores, u64, u64, &mut ffi::WordResult) -> u64;
+type WriteFunction = extern "C" fn(&mut ffi::Cores, u64, u64, u64) -> u64;
 type View = GuestRegisterStateRef<'static>;
 type RustRead = fn(&View, usize) -> Option<u64>;
 type RustWrite = unsafe fn(&mut View, usize, u64) -> Result<(), GuestRegisterWriteError>;
@@ -17,17 +16,16 @@ type RustWrite = unsafe fn(&mut View, usize, u64) -> Result<(), GuestRegisterWri
 /// The port's cores, and the arguments.
 #[derive(Clone)]
 struct PortRegisters {
-    cores: [u8; ffi::CORES_SIZE],
+    cores: ffi::Cores,
     core: u64,
     index: u64,
     value: u64,
-    word: [u8; ffi::WORD_RESULT_SIZE],
+    word: ffi::WordResult,
 }
 
 impl PortRegisters {
     fn new(index: u64) -> Self {
-        let mut state =
-            Self { cores: [0; ffi::CORES_SIZE], core: 0, index, value: WRITTEN, word: [0; ffi::WORD_RESULT_SIZE] };
+        let mut state = Self { cores: ffi::Cores::ZERO, core: 0, index, value: WRITTEN, word: ffi::WordResult::ZERO };
         assert_eq!(ffi::ritm_fresh_cores(&mut state.cores), 0, "fresh cores");
         for index in 0..31 {
             assert_eq!(ffi::ritm_write_gpr(&mut state.cores, state.core, index, held_in(index)), 0, "a register");
@@ -45,7 +43,7 @@ impl State for PortRegisters {
     fn put_back(&mut self, _: &Self) {}
 
     fn words(&self) -> Vec<u64> {
-        words::get::<31>(&self.cores, 0).to_vec()
+        self.cores.get_all::<31>(0).to_vec()
     }
 }
 
@@ -93,7 +91,7 @@ pub fn read(index: u64) -> Sides {
         state: PortRegisters::new(index),
         function: ffi::ritm_read_gpr as ReadFunction,
         call: |state: &mut PortRegisters, function| function(&state.cores, state.core, state.index, &mut state.word),
-        answer: |state, number| [[number], words::get(&state.word, 0)].concat(),
+        answer: |state, number| vec![number, state.word.get(0)],
     };
     let rust = Call {
         state: Viewed::new(index),

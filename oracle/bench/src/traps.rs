@@ -2,7 +2,6 @@
 
 use crate::policy;
 use crate::side::{Call, Sides, State};
-use crate::words;
 use reference::aarch64_rt::RegisterState;
 use reference::arm_sysregs::{read_elr_el1, read_esr_el1, read_far_el1, read_spsr_el1};
 use reference::exceptions::{GuestRegisterStateRef, GuestRegisters};
@@ -48,50 +47,39 @@ const FIRMWARE_CALL: u64 = 0x8400_0000;
 
 /// Words of a core, and those of them that RITM has too: not what the core waits for.
 const CORE_WORDS: usize = 38;
-const CORE_SIZE: usize = 8 * CORE_WORDS;
 const COUNTER: usize = 8 * CORE_WORDS;
 
-type TrapFunction = extern "C" fn(
-    &[u8; ffi::POLICY_SIZE],
-    &mut [u8; ffi::CORES_SIZE],
-    u64,
-    u64,
-    u64,
-    u64,
-    u64,
-    &mut [u8; ffi::TRAP_RESULT_SIZE],
-) -> u64;
-type ReplyFunction = extern "C" fn(&mut [u8; ffi::CORES_SIZE], u64, u64, &[u8; ffi::VALUES_SIZE], i32) -> u64;
-type SaveFunction = extern "C" fn(&mut [u8; ffi::CORES_SIZE], u64, &[u8; ffi::REGISTERS_SIZE]) -> u64;
-type FreshFunction = extern "C" fn(&mut [u8; ffi::CORES_SIZE]) -> u64;
+type TrapFunction = extern "C" fn(&ffi::Policy, &mut ffi::Cores, u64, u64, u64, u64, u64, &mut ffi::TrapResult) -> u64;
+type ReplyFunction = extern "C" fn(&mut ffi::Cores, u64, u64, &ffi::Values, i32) -> u64;
+type SaveFunction = extern "C" fn(&mut ffi::Cores, u64, &ffi::Registers) -> u64;
+type FreshFunction = extern "C" fn(&mut ffi::Cores) -> u64;
 type HandleSyncLower = fn(GuestRegisterStateRef<'_>);
 
 /// The port's cores, of which one takes a trap, a reply or a save.
 #[derive(Clone)]
 struct PortCores {
-    policy: &'static [u8; ffi::POLICY_SIZE],
-    cores: [u8; ffi::CORES_SIZE],
+    policy: &'static ffi::Policy,
+    cores: ffi::Cores,
     core: u64,
     trap: Trap,
-    trapped: [u8; ffi::TRAP_RESULT_SIZE],
+    trapped: ffi::TrapResult,
     /// The kind that the trap's result must have.
     expected: u64,
     reply_kind: u64,
-    values: [u8; ffi::VALUES_SIZE],
-    registers: [u8; ffi::REGISTERS_SIZE],
+    values: ffi::Values,
+    registers: ffi::Registers,
 }
 
 impl State for PortCores {
     fn put_back(&mut self, before: &Self) {
-        let start = self.core as usize * CORE_SIZE;
-        let core = start..start + CORE_SIZE;
-        self.cores[core.clone()].copy_from_slice(&before.cores[core]);
-        self.cores[8 * COUNTER..].copy_from_slice(&before.cores[8 * COUNTER..]);
+        let start = self.core as usize * CORE_WORDS;
+        self.cores.put_all(start, &before.cores.get_all::<CORE_WORDS>(start));
+        self.cores.put(COUNTER, before.cores.get(COUNTER));
     }
 
     fn words(&self) -> Vec<u64> {
-        let mut held = words::get::<{ CORE_WORDS - 1 }>(&self.cores, self.core as usize * CORE_WORDS).to_vec();
-        held.extend(words::get::<1>(&self.cores, COUNTER));
+        let mut held = self.cores.get_all::<{ CORE_WORDS - 1 }>(self.core as usize * CORE_WORDS).to_vec();
+        held.push(self.cores.get(COUNTER));
         held
     }
 }
@@ -189,18 +177,17 @@ impl Guest {
     fn port(&self, core: u64) -> PortCores {
         let mut state = PortCores {
             policy: Box::leak(Box::new(policy::port_with(0, self.regions))),
-            cores: [0; ffi::CORES_SIZE],
+            cores: ffi::Cores::ZERO,
             core,
             trap: self.trap,
-            trapped: [0; ffi::TRAP_RESULT_SIZE],
+            trapped: ffi::TrapResult::ZERO,
             expected: self.kind,
             reply_kind: self.reply.kind,
-            values: [0; ffi::VALUES_SIZE],
-            registers: [0; ffi::REGISTERS_SIZE],
+            values: self.reply.values.into(),
+            registers: ffi::Registers::ZERO,
         };
-        words::put(&mut state.values, &self.reply.values);
-        words::put(&mut state.registers, &self.core.x);
-        words::put(&mut state.registers[8 * 31..], &[self.core.elr, self.core.spsr]);
+        state.registers.put_all(0, &self.core.x);
+        state.registers.put_all(31, &[self.core.elr, self.core.spsr]);
         assert_eq!(ffi::ritm_fresh_cores(&mut state.cores), 0, "fresh cores");
         assert_eq!(ffi::ritm_save(&mut state.cores, core, &state.registers), 0, "a fresh core takes a save");
         state
@@ -241,7 +228,7 @@ fn reply_in(state: &mut PortCores, function: ReplyFunction) -> u64 {
 
 /// The number of the port's answer, if its trap was of the kind that the case says.
 fn number_of_trap(state: &PortCores, number: u64) -> Vec<u64> {
-    assert_eq!(words::get(&state.trapped, 0), [state.expected], "the trap is of the kind that the case says");
+    assert_eq!(state.trapped.get(0), state.expected, "the trap is of the kind that the case says");
     vec![number]
 }
 

@@ -74,8 +74,7 @@ impl Case {
         let mut port = Port::fresh(self.counter);
         self.before.iter().for_each(|call| assert_eq!(port.take(call).number, 0));
         let answer = port.take(&self.call);
-        let [counter] = port::words(&port.cores[8 * 304..]);
-        View { answer, core: port::words(&port.cores), counter }
+        View { answer, core: port.cores.get_all(0), counter: port.cores.get(port::COUNTER) }
     }
 }
 

@@ -1,7 +1,7 @@
 //! RITM's state in the words of the port's buffers, and the comparison with what those hold.
 
 use crate::call::Call;
-use crate::port::{self, Port};
+use crate::port::Port;
 use crate::ritm_rust::{CORES, RitmRust};
 use reference::oracle::Core;
 use std::ops::Range;
@@ -90,36 +90,31 @@ impl Mirror {
         let ranges = 0..self.policy[RANGE_COUNT] as usize * RANGE.len();
         let regions = REGIONS..REGIONS + self.policy[REGION_COUNT] as usize * REGION.len();
         let held = [RANGE_COUNT..RANGE_COUNT + 1, REGION_COUNT..REGION_COUNT + 1, ranges, regions];
-        if let Some(k) = held.into_iter().find_map(|places| differing(&port.policy, &self.policy, places)) {
-            return Some(told(&policy_word(k), word(&port.policy, k), self.policy[k]));
+        let policy: [u64; REGION_COUNT + 1] = port.policy.get_all(0);
+        if let Some(k) = held.into_iter().find_map(|places| differing(&policy, &self.policy, places)) {
+            return Some(told(&policy_word(k), policy[k], self.policy[k]));
         }
-        if let Some(k) = differing(&port.cores, &self.cores, 0..COUNTER + 1) {
-            return Some(told(&cores_word(k), word(&port.cores, k), self.cores[k]));
+        let cores: [u64; COUNTER + 1] = port.cores.get_all(0);
+        if let Some(k) = differing(&cores, &self.cores, 0..COUNTER + 1) {
+            return Some(told(&cores_word(k), cores[k], self.cores[k]));
         }
         let k = self.map_place(port)?;
         let name = format!("map place {} {}", k / ENTRY.len(), ENTRY[k % ENTRY.len()]);
-        Some(told(&name, word(&port.map, k), self.map[k]))
+        Some(told(&name, port.map.get(k), self.map[k]))
     }
 
     /// The first word of the map that differs; a free place is compared by its first word alone.
     fn map_place(&self, port: &Port) -> Option<usize> {
         (0..MAP_WORDS).find(|k| {
             let looked_at = k % ENTRY.len() == 0 || self.map[k - k % ENTRY.len()] == 1;
-            looked_at && word(&port.map, *k) != self.map[*k]
+            looked_at && port.map.get(*k) != self.map[*k]
         })
     }
 }
 
-fn word(buffer: &[u8], k: usize) -> u64 {
-    port::words::<1>(&buffer[8 * k..])[0]
-}
-
-/// The first of these places at which a buffer does not hold the word. Most hold all, which is told without branches.
-fn differing(buffer: &[u8], words: &[u64], mut places: Range<usize>) -> Option<usize> {
-    let (chunks, _) = buffer.as_chunks::<8>();
-    let pairs = chunks[places.clone()].iter().zip(&words[places.clone()]);
-    let bits = pairs.fold(0, |bits, (chunk, word)| bits | (u64::from_le_bytes(*chunk) ^ word));
-    if bits == 0 { None } else { places.find(|k| u64::from_le_bytes(chunks[*k]) != words[*k]) }
+/// The first of these places at which the words differ. Mostly none do, which one comparison tells.
+fn differing(port: &[u64], rust: &[u64], mut places: Range<usize>) -> Option<usize> {
+    if port[places.clone()] == rust[places.clone()] { None } else { places.find(|k| port[*k] != rust[*k]) }
 }
 
 fn told(name: &str, port: u64, rust: u64) -> String {
@@ -165,21 +160,24 @@ mod tests {
             mirror.follow(call, &rust);
         }
         assert_eq!(mirror.difference(&port), None);
-        let changed = |k: usize, buffer: fn(&mut Port) -> &mut [u8]| {
+        let changed = |k: usize, change: fn(&mut Port, usize)| {
             let mut other = port.clone();
-            buffer(&mut other)[8 * k] ^= 0x40;
+            change(&mut other, k);
             mirror.difference(&other)
         };
+        let change_policy = |port: &mut Port, k: usize| port.policy.put(k, port.policy.get(k) ^ 0x40);
+        let change_cores = |port: &mut Port, k: usize| port.cores.put(k, port.cores.get(k) ^ 0x40);
+        let change_map = |port: &mut Port, k: usize| port.map.put(k, port.map.get(k) ^ 0x40);
         let held = (0..RANGE.len()).chain([RANGE_COUNT]).chain(REGIONS..REGIONS + REGION.len()).chain([REGION_COUNT]);
         for k in held {
-            assert!(changed(k, |port| &mut port.policy).is_some_and(|text| text.starts_with(&policy_word(k))));
+            assert!(changed(k, change_policy).is_some_and(|text| text.starts_with(&policy_word(k))));
         }
         for k in 0..=COUNTER {
-            assert!(changed(k, |port| &mut port.cores).is_some_and(|text| text.starts_with(&cores_word(k))));
+            assert!(changed(k, change_cores).is_some_and(|text| text.starts_with(&cores_word(k))));
         }
         for k in (0..ENTRY.len()).chain([ENTRY.len()]) {
-            assert!(changed(k, |port| &mut port.map).is_some());
+            assert!(changed(k, change_map).is_some());
         }
-        assert_eq!(changed(ENTRY.len() + 1, |port| &mut port.map), None);
+        assert_eq!(changed(ENTRY.len() + 1, change_map), None);
     }
 }

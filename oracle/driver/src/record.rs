@@ -162,7 +162,7 @@ fn line(text: &mut String, fields: &[u64]) {
 mod tests {
     use super::*;
     use crate::call::Answer;
-    use crate::port::{self, Port};
+    use crate::port::Port;
     use reference::oracle::Trap;
 
     fn words<const N: usize>(fields: &[u64]) -> [u64; N] {
@@ -200,8 +200,7 @@ mod tests {
         let answer = port.take(call);
         let mut results = answer.words()[..form.words].to_vec();
         if let (Call::Find { .. }, 1) = (call, answer.words()[0]) {
-            let [base] = port::words(&port.policy[8 * (129 + 5 * results[1] as usize)..]);
-            results[1] = base;
+            results[1] = port.policy.get(129 + 5 * results[1] as usize);
         }
         if form.number {
             results.insert(0, answer.number);
@@ -211,8 +210,8 @@ mod tests {
 
     /// What the port holds, in the form of a state's record.
     fn state(port: &Port, fields: &[u64]) -> Vec<u64> {
-        let policy: [u64; 210] = port::words(&port.policy);
-        let cores: [u64; 305] = port::words(&port.cores);
+        let policy: [u64; 210] = port.policy.get_all(0);
+        let cores: [u64; 305] = port.cores.get_all(0);
         let place = fields[1] as usize;
         match fields[0] {
             CORE_STATE => cores[38 * place..][..37].to_vec(),
