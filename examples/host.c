@@ -69,9 +69,9 @@
 #define STORE_VALUE UINT64_C(0x123456789abcdef0)
 
 struct host {
-    uint8_t policy[RITM_POLICY_SIZE];
-    uint8_t cores[RITM_CORES_SIZE];
-    uint8_t map[RITM_MAP_SIZE];
+    struct ritm_policy policy;
+    struct ritm_cores cores;
+    struct ritm_suspend_map map;
 };
 
 static void expect(const char *what, uint64_t answer, uint64_t expected)
@@ -94,13 +94,13 @@ static void expect_accepted(const char *what, uint64_t number)
 
 static void allow(struct host *host, uint64_t start, uint64_t end, uint64_t attributes, const char *what)
 {
-    expect_accepted(what, ritm_allow_range(host->policy, start, end - start, attributes));
+    expect_accepted(what, ritm_allow_range(&host->policy, start, end - start, attributes));
     printf("policy: allow 0x%" PRIx64 " to 0x%" PRIx64 ", %s\n", start, end, what);
 }
 
 static void handle(struct host *host, uint64_t start, uint64_t end, const char *what)
 {
-    expect_accepted(what, ritm_handle_range(host->policy, start, end - start, RITM_HANDLER_FILTERED_MMIO,
+    expect_accepted(what, ritm_handle_range(&host->policy, start, end - start, RITM_HANDLER_FILTERED_MMIO,
                                             RITM_HANDLER_FILTERED_MMIO));
     printf("policy: handle 0x%" PRIx64 " to 0x%" PRIx64 ", %s\n", start, end, what);
 }
@@ -108,18 +108,18 @@ static void handle(struct host *host, uint64_t start, uint64_t end, const char *
 /* The linker may put the heap anywhere: its whole pages are allowed. */
 static void allow_shared_heap(struct host *host)
 {
-    uint8_t start[RITM_WORD_RESULT_SIZE];
-    uint8_t end[RITM_WORD_RESULT_SIZE];
-    expect_accepted("the heap's first page", ritm_align_down_to_page(SHARED_HEAP_ADDRESS, start));
-    expect_accepted("the heap's end", ritm_align_up_to_page(SHARED_HEAP_ADDRESS + SHARED_HEAP_SIZE, end));
-    allow(host, ritm_get_word(start, 0), ritm_get_word(end, 0), STAGE2_MEMORY_ATTRIBUTES, "the shared heap");
+    struct ritm_word_result start;
+    struct ritm_word_result end;
+    expect_accepted("the heap's first page", ritm_align_down_to_page(SHARED_HEAP_ADDRESS, &start));
+    expect_accepted("the heap's end", ritm_align_up_to_page(SHARED_HEAP_ADDRESS + SHARED_HEAP_SIZE, &end));
+    allow(host, ritm_get_word(&start, 0), ritm_get_word(&end, 0), STAGE2_MEMORY_ATTRIBUTES, "the shared heap");
 }
 
 /* RITM's function of this name for QEMU. */
 static void configure_memory_access(struct host *host)
 {
     const uint64_t ritm_end = RITM_IMAGE_ADDRESS + RITM_IMAGE_SIZE;
-    expect_accepted("a fresh policy", ritm_fresh_policy(host->policy));
+    expect_accepted("a fresh policy", ritm_fresh_policy(&host->policy));
     allow(host, 0, FILTERED_MMIO_BASE, STAGE2_DEVICE_ATTRIBUTES, "device memory before the filtered MMIO page");
     handle(host, FILTERED_MMIO_BASE, FILTERED_MMIO_END, "the filtered MMIO page");
     allow(host, FILTERED_MMIO_END, DRAM_START, STAGE2_DEVICE_ATTRIBUTES, "device memory after the filtered MMIO page");
@@ -132,7 +132,7 @@ static void configure_memory_access(struct host *host)
 
 static void allow_a_page_twice(struct host *host)
 {
-    const uint64_t number = ritm_allow_range(host->policy, UART_BASE_ADDRESS, PAGE_SIZE, STAGE2_DEVICE_ATTRIBUTES);
+    const uint64_t number = ritm_allow_range(&host->policy, UART_BASE_ADDRESS, PAGE_SIZE, STAGE2_DEVICE_ATTRIBUTES);
     expect("the UART allowed twice", number, RITM_ALLOWED_RANGE_OVERLAP);
     printf("policy: allow 0x%" PRIx64 ", the UART, which is allowed already: refused %" PRIu64 "\n", UART_BASE_ADDRESS,
            number);
@@ -140,8 +140,8 @@ static void allow_a_page_twice(struct host *host)
 
 static void count_ranges(const struct host *host)
 {
-    const uint64_t allowed = ritm_get_word(host->policy, RITM_POLICY_ALLOWED_COUNT);
-    const uint64_t regions = ritm_get_word(host->policy, RITM_POLICY_REGION_COUNT);
+    const uint64_t allowed = ritm_get_word(&host->policy, RITM_POLICY_ALLOWED_COUNT);
+    const uint64_t regions = ritm_get_word(&host->policy, RITM_POLICY_REGION_COUNT);
     expect("allowed ranges", allowed, 7);
     expect("regions", regions, 1);
     printf("policy: allowed ranges %" PRIu64 ", regions %" PRIu64 "\n", allowed, regions);
@@ -149,13 +149,13 @@ static void count_ranges(const struct host *host)
 
 static void find_addresses(const struct host *host)
 {
-    uint8_t found[RITM_FIND_RESULT_SIZE];
-    expect_accepted("find", ritm_find(host->policy, FILTERED_MMIO_BASE + 16, found));
-    expect("an address of the page", ritm_get_word(found, RITM_FIND_FOUND), 1);
+    struct ritm_find_result found;
+    expect_accepted("find", ritm_find(&host->policy, FILTERED_MMIO_BASE + 16, &found));
+    expect("an address of the page", ritm_get_word(&found, RITM_FIND_FOUND), 1);
     printf("policy: find 0x%" PRIx64 ": region %" PRIu64 ", offset %" PRIu64 "\n", FILTERED_MMIO_BASE + 16,
-           ritm_get_word(found, RITM_FIND_INDEX), ritm_get_word(found, RITM_FIND_OFFSET));
-    expect_accepted("find", ritm_find(host->policy, UART_BASE_ADDRESS, found));
-    expect("an address of the UART", ritm_get_word(found, RITM_FIND_FOUND), 0);
+           ritm_get_word(&found, RITM_FIND_INDEX), ritm_get_word(&found, RITM_FIND_OFFSET));
+    expect_accepted("find", ritm_find(&host->policy, UART_BASE_ADDRESS, &found));
+    expect("an address of the UART", ritm_get_word(&found, RITM_FIND_FOUND), 0);
     printf("policy: find 0x%" PRIx64 ": none\n", UART_BASE_ADDRESS);
 }
 
@@ -166,39 +166,40 @@ static void find_addresses(const struct host *host)
 /* A word of a core's record. */
 static uint64_t core_word(const struct host *host, uint64_t core, size_t place)
 {
-    return ritm_get_word(host->cores, core * RITM_CORE_WORDS + place);
+    return ritm_get_word(&host->cores, core * RITM_CORE_WORDS + place);
 }
 
 static uint64_t gpr(const struct host *host, uint64_t core, uint64_t index)
 {
-    uint8_t word[RITM_WORD_RESULT_SIZE];
-    expect_accepted("a register read", ritm_read_gpr(host->cores, core, index, word));
-    return ritm_get_word(word, 0);
+    struct ritm_word_result word;
+    expect_accepted("a register read", ritm_read_gpr(&host->cores, core, index, &word));
+    return ritm_get_word(&word, 0);
 }
 
 static void start_guest(struct host *host, uint64_t core)
 {
-    uint8_t registers[RITM_REGISTERS_SIZE] = {0};
-    ritm_put_word(registers, RITM_REGISTERS_ELR, GUEST_ENTRY);
-    ritm_put_word(registers, RITM_REGISTERS_SPSR, GUEST_SPSR);
-    expect_accepted("the first save", ritm_save(host->cores, core, registers));
+    struct ritm_registers registers = {{0}};
+    ritm_put_word(&registers, RITM_REGISTERS_ELR, GUEST_ENTRY);
+    ritm_put_word(&registers, RITM_REGISTERS_SPSR, GUEST_SPSR);
+    expect_accepted("the first save", ritm_save(&host->cores, core, &registers));
 }
 
 /* The guest runs on with the registers that its core holds, and sets one of them before it traps. */
 static void run_guest(struct host *host, uint64_t core, size_t index, uint64_t value)
 {
-    uint8_t registers[RITM_REGISTERS_SIZE];
-    memcpy(registers, host->cores + 8 * RITM_CORE_WORDS * core, sizeof registers);
-    ritm_put_word(registers, RITM_REGISTERS_X + index, value);
-    expect_accepted("a save", ritm_save(host->cores, core, registers));
+    struct ritm_registers registers;
+    memcpy(&registers, &host->cores.words[RITM_CORE_WORDS * core], sizeof registers);
+    ritm_put_word(&registers, RITM_REGISTERS_X + index, value);
+    expect_accepted("a save", ritm_save(&host->cores, core, &registers));
 }
 
 /* Takes a trap. The guest's MMU is off: the faulting virtual address is the IPA. */
 static uint64_t trap(struct host *host, uint64_t core, uint64_t esr, uint64_t ipa, uint64_t *kind)
 {
-    uint8_t trapped[RITM_TRAP_RESULT_SIZE];
-    const uint64_t number = ritm_trap(host->policy, host->cores, core, esr, ipa / PAGE_SIZE, ipa, GUEST_VBAR, trapped);
-    *kind = ritm_get_word(trapped, RITM_TRAP_KIND);
+    struct ritm_trap_result trapped;
+    const uint64_t number =
+        ritm_trap(&host->policy, &host->cores, core, esr, ipa / PAGE_SIZE, ipa, GUEST_VBAR, &trapped);
+    *kind = ritm_get_word(&trapped, RITM_TRAP_KIND);
     return number;
 }
 
@@ -219,9 +220,9 @@ static void expect_refused_trap(struct host *host, uint64_t core, const char *wh
 
 static void reply(struct host *host, uint64_t core, uint64_t kind, uint64_t value, uint64_t x0)
 {
-    uint8_t values[RITM_VALUES_SIZE] = {0};
-    ritm_put_word(values, 0, value);
-    expect_accepted("a reply", ritm_reply(host->cores, core, kind, values, 0));
+    struct ritm_values values = {{0}};
+    ritm_put_word(&values, 0, value);
+    expect_accepted("a reply", ritm_reply(&host->cores, core, kind, &values, 0));
     expect("x0 after a reply", gpr(host, core, 0), x0);
     printf("core %" PRIu64 ": reply of kind %" PRIu64 ": x0 0x%" PRIx64 ", ELR 0x%" PRIx64 "\n", core, kind, x0,
            core_word(host, core, RITM_CORE_ELR));
@@ -279,8 +280,8 @@ static void store_words(struct host *host, uint64_t core)
     const uint64_t ipa = FILTERED_MMIO_BASE + STORE_OFFSET;
     run_guest(host, core, RT, STORE_VALUE);
     expect_trap(host, core, ESR_STORE, ipa, RITM_TRAP_STORE_HANDLED);
-    printf("core %" PRIu64 ": store of 0x%" PRIx64 " at 0x%" PRIx64 ": handled, ELR 0x%" PRIx64 "\n", core,
-           STORE_VALUE, ipa, core_word(host, core, RITM_CORE_ELR));
+    printf("core %" PRIu64 ": store of 0x%" PRIx64 " at 0x%" PRIx64 ": handled, ELR 0x%" PRIx64 "\n", core, STORE_VALUE,
+           ipa, core_word(host, core, RITM_CORE_ELR));
 
     run_guest(host, core, RT, STORE_VALUE + 1);
     expect_trap(host, core, ESR_STORE, ipa, RITM_TRAP_ABORT_INJECTED);
@@ -296,7 +297,7 @@ static void store_words(struct host *host, uint64_t core)
 
 static void boot(struct host *host)
 {
-    expect_accepted("fresh cores", ritm_fresh_cores(host->cores));
+    expect_accepted("fresh cores", ritm_fresh_cores(&host->cores));
     start_guest(host, 0);
     start_guest(host, 1);
     call_firmware(host, 0);
@@ -310,7 +311,7 @@ static void boot(struct host *host)
  * The suspend map.
  */
 
-static void print_entry(const char *what, uint64_t key, const uint8_t entry[RITM_ENTRY_RESULT_SIZE])
+static void print_entry(const char *what, uint64_t key, const struct ritm_entry_result *entry)
 {
     if (ritm_get_word(entry, RITM_ENTRY_FOUND) == 0) {
         printf("suspend map: %s 0x%" PRIx64 ": none\n", what, key);
@@ -324,19 +325,19 @@ static void print_entry(const char *what, uint64_t key, const uint8_t entry[RITM
 static void suspend_and_resume(struct host *host)
 {
     const uint64_t mpidr = UINT64_C(0x80000001);
-    uint8_t entry[RITM_ENTRY_RESULT_SIZE];
-    expect_accepted("a fresh map", ritm_fresh_map(host->map));
-    expect_accepted("insert", ritm_insert(host->map, mpidr, GUEST_ENTRY, 7));
+    struct ritm_entry_result entry;
+    expect_accepted("a fresh map", ritm_fresh_map(&host->map));
+    expect_accepted("insert", ritm_insert(&host->map, mpidr, GUEST_ENTRY, 7));
     printf("suspend map: insert 0x%" PRIx64 "\n", mpidr);
-    expect_accepted("get", ritm_get(host->map, mpidr, entry));
-    expect("the entry held", ritm_get_word(entry, RITM_ENTRY_ENTRY_POINT), GUEST_ENTRY);
-    print_entry("get", mpidr, entry);
-    expect_accepted("remove", ritm_remove(host->map, mpidr, entry));
-    expect("the entry removed", ritm_get_word(entry, RITM_ENTRY_CONTEXT_ID), 7);
-    print_entry("remove", mpidr, entry);
-    expect_accepted("get", ritm_get(host->map, mpidr, entry));
-    expect("an entry removed before", ritm_get_word(entry, RITM_ENTRY_FOUND), 0);
-    print_entry("get", mpidr, entry);
+    expect_accepted("get", ritm_get(&host->map, mpidr, &entry));
+    expect("the entry held", ritm_get_word(&entry, RITM_ENTRY_ENTRY_POINT), GUEST_ENTRY);
+    print_entry("get", mpidr, &entry);
+    expect_accepted("remove", ritm_remove(&host->map, mpidr, &entry));
+    expect("the entry removed", ritm_get_word(&entry, RITM_ENTRY_CONTEXT_ID), 7);
+    print_entry("remove", mpidr, &entry);
+    expect_accepted("get", ritm_get(&host->map, mpidr, &entry));
+    expect("an entry removed before", ritm_get_word(&entry, RITM_ENTRY_FOUND), 0);
+    print_entry("get", mpidr, &entry);
 }
 
 int main(void)

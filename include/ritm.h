@@ -1,20 +1,31 @@
 /*
  * The C interface of Malfroek: RITM's stage-2 policy, guest traps and suspend map, as a proved static archive.
  *
- * All state is the caller's. It stands in byte buffers of fixed sizes that hold little-endian 64-bit words. No
- * alignment is asked for, any bytes are a valid state, and an unknown code in them reads as 0. Every buffer of a call
- * must be readable and, unless it is const, writable in its whole size, whatever the call comes to: no pointer may be
- * null. The buffers of one call must not overlap. No function keeps a pointer. Of other code the archive calls memset
- * alone.
+ * Buffers. All state is the caller's. It stands in buffers of fixed sizes, a struct of 64-bit words for each. A word is
+ * little-endian in memory whatever the processor is: ritm_get_word reads it on any host, and a little-endian one may
+ * read and write words[k] itself. Any words are a valid state, and an unknown code in them reads as 0. Every buffer of
+ * a call must be readable and, unless it is const, writable in its whole size, whatever the call comes to: no pointer
+ * may be null. The buffers of one call must not overlap. No function keeps a pointer.
  *
- * The archive has no data of its own, so calls on different buffers may run at the same time. Calls on the same buffer
- * may only where all of them take it as const: a policy that nothing changes any more may be shared by all cores. A
- * cores buffer that several cores use needs one lock of the caller's for the whole of it, and not one for each core,
- * since a trap of any core may write the counter. A map needs one too.
+ * Alignment. A buffer that is declared by its type is aligned to 8, and no archive asks for more. One that comes from
+ * elsewhere must be aligned to 8 too for the archive for 64-bit Arm, whose accesses are of 64 bits at multiples of 8
+ * from the buffer's start, or the processor must take accesses at any address (at EL2: the MMU on, SCTLR_EL2.A clear).
+ * The strict archive for 64-bit Arm and the one for x86-64 take a buffer anywhere (board/README.md).
  *
- * Every function returns RITM_ACCEPTED or the number of a refusal (enum ritm_refusal); ritm_buffer_size alone returns
- * a size. Where several refusals apply, the first in the order given at the function is returned. A refusal leaves
- * every state buffer as it was. A result buffer is written whole on every call, zeros where there is nothing.
+ * Other code. Of other code the archive calls memset alone; the strict one calls memcpy too.
+ *
+ * Several processors. The archive has no data of its own, so calls on different buffers may run at the same time. Calls
+ * on the same buffer may only where all of them take it as const: a policy that nothing changes any more may be shared
+ * by all cores. A cores buffer needs one lock of the caller's for the whole of it, and not one for each core, since the
+ * counter is one for all. A map needs one too.
+ * Some calls touch the words of their own core alone, and not the counter: ritm_save, ritm_reply, ritm_read_gpr,
+ * ritm_write_gpr, and ritm_trap with an EC (bits 31:26 of ESR_EL2) other than 0x24, which forwards a call or is
+ * refused. On different cores of one buffer these may run without the lock, also beside a call that holds it. A trap
+ * with EC 0x24, a data abort, reads the counter; only a load of the counter word writes it.
+ *
+ * Answers. Every function returns RITM_ACCEPTED or the number of a refusal (enum ritm_refusal); ritm_buffer_size alone
+ * returns a size. Where several refusals apply, the first in the order given at the function is returned. A refusal
+ * leaves every state buffer as it was. A result buffer is written whole on every call, zeros where there is nothing.
  */
 #ifndef RITM_H
 #define RITM_H
@@ -43,6 +54,40 @@ extern "C" {
 #define RITM_ENTRY_RESULT_SIZE 24
 #define RITM_ACCESS_RESULT_SIZE 48
 #define RITM_WORD_RESULT_SIZE 8
+
+/* The buffers: state, */
+struct ritm_policy {
+    uint64_t words[RITM_POLICY_SIZE / 8];
+};
+struct ritm_cores {
+    uint64_t words[RITM_CORES_SIZE / 8];
+};
+struct ritm_suspend_map {
+    uint64_t words[RITM_MAP_SIZE / 8];
+};
+/* what a save and a reply are given, */
+struct ritm_registers {
+    uint64_t words[RITM_REGISTERS_SIZE / 8];
+};
+struct ritm_values {
+    uint64_t words[RITM_VALUES_SIZE / 8];
+};
+/* and results. */
+struct ritm_trap_result {
+    uint64_t words[RITM_TRAP_RESULT_SIZE / 8];
+};
+struct ritm_find_result {
+    uint64_t words[RITM_FIND_RESULT_SIZE / 8];
+};
+struct ritm_entry_result {
+    uint64_t words[RITM_ENTRY_RESULT_SIZE / 8];
+};
+struct ritm_access_result {
+    uint64_t words[RITM_ACCESS_RESULT_SIZE / 8];
+};
+struct ritm_word_result {
+    uint64_t words[RITM_WORD_RESULT_SIZE / 8];
+};
 
 /* The number of each buffer, for ritm_buffer_size. */
 enum ritm_buffer {
@@ -145,8 +190,8 @@ enum ritm_reply_kind {
 };
 
 /*
- * Places of words. "Word k" of a buffer is its bytes 8 * k to 8 * k + 7; see ritm_get_word. A count above its limit
- * reads as the limit. Places past a count, and the words of a free place of the suspend map, may hold anything.
+ * Places of words: indexes of words[], and what ritm_get_word takes. A count above its limit reads as the limit. Places
+ * past a count, and the words of a free place of the suspend map, may hold anything.
  */
 
 /* Policy: allowed range k stands at word RITM_POLICY_ALLOWED + k * RITM_ALLOWED_WORDS, in order of arrival. */
@@ -219,21 +264,23 @@ enum ritm_reply_kind {
 #define RITM_ACCESS_SSE 4
 #define RITM_ACCESS_SF 5
 
-/* Word k of a buffer. */
-static inline uint64_t ritm_get_word(const uint8_t *bytes, size_t k)
+/* Word k of a buffer, which may stand anywhere. */
+static inline uint64_t ritm_get_word(const void *buffer, size_t k)
 {
+    const uint8_t *bytes = (const uint8_t *)buffer + 8 * k;
     uint64_t word = 0;
     for (size_t i = 8; i > 0; i--) {
-        word = word << 8 | bytes[8 * k + i - 1];
+        word = word << 8 | bytes[i - 1];
     }
     return word;
 }
 
-/* Sets word k of a buffer. */
-static inline void ritm_put_word(uint8_t *bytes, size_t k, uint64_t word)
+/* Sets word k of a buffer, which may stand anywhere. */
+static inline void ritm_put_word(void *buffer, size_t k, uint64_t word)
 {
+    uint8_t *bytes = (uint8_t *)buffer + 8 * k;
     for (size_t i = 0; i < 8; i++) {
-        bytes[8 * k + i] = (uint8_t)(word >> (8 * i));
+        bytes[i] = (uint8_t)(word >> (8 * i));
     }
 }
 
@@ -242,77 +289,78 @@ static inline void ritm_put_word(uint8_t *bytes, size_t k, uint64_t word)
  */
 
 /* Makes the policy fresh: no range, no region. */
-uint64_t ritm_fresh_policy(uint8_t policy[RITM_POLICY_SIZE]);
+uint64_t ritm_fresh_policy(struct ritm_policy *policy);
 
 /* Allows the guest direct access to a range, with any attribute word. Refusals 1 to 7. */
-uint64_t ritm_allow_range(uint8_t policy[RITM_POLICY_SIZE], uint64_t base_ipa, uint64_t size, uint64_t attributes);
+uint64_t ritm_allow_range(struct ritm_policy *policy, uint64_t base_ipa, uint64_t size, uint64_t attributes);
 
 /* Has the guest's accesses to a range handled, loads by one handler and stores by another (enum ritm_memory_handler).
    Refusals 20, 1 to 4, 6, 8, 9. */
-uint64_t ritm_handle_range(uint8_t policy[RITM_POLICY_SIZE], uint64_t base_ipa, uint64_t size, uint64_t read,
-                           uint64_t write);
+uint64_t ritm_handle_range(struct ritm_policy *policy, uint64_t base_ipa, uint64_t size, uint64_t read, uint64_t write);
 
 /* Finds the first region with the address, and the offset in it. No refusal: none is found 0. */
-uint64_t ritm_find(const uint8_t policy[RITM_POLICY_SIZE], uint64_t ipa, uint8_t found[RITM_FIND_RESULT_SIZE]);
+uint64_t ritm_find(const struct ritm_policy *policy, uint64_t ipa, struct ritm_find_result *found);
 
 /*
  * The cores.
  */
 
 /* Makes the eight cores fresh: all zero, waiting for nothing; the counter too. */
-uint64_t ritm_fresh_cores(uint8_t cores[RITM_CORES_SIZE]);
+uint64_t ritm_fresh_cores(struct ritm_cores *cores);
 
 /* Puts in a core's registers as the hardware saved them. Refusals 10, 11. */
-uint64_t ritm_save(uint8_t cores[RITM_CORES_SIZE], uint64_t core, const uint8_t registers[RITM_REGISTERS_SIZE]);
+uint64_t ritm_save(struct ritm_cores *cores, uint64_t core, const struct ritm_registers *registers);
 
 /* Takes a core's trap: ESR_EL2, the FIPA of HPFAR_EL2 (a page number), FAR_EL2, and the guest's VBAR_EL1. The core
-   then goes on from its registers, or waits for the reply to a forwarded call. Refusals 10 to 13. */
-uint64_t ritm_trap(const uint8_t policy[RITM_POLICY_SIZE], uint8_t cores[RITM_CORES_SIZE], uint64_t core, uint64_t esr,
-                   uint64_t fipa, uint64_t far, uint64_t vbar, uint8_t trapped[RITM_TRAP_RESULT_SIZE]);
+   then goes on from its registers, or waits for the reply to a forwarded call. Refusals 10 to 13. After 12 and 13 the
+   core stands at the instruction that trapped: returning to the guest makes the same trap again, for ever, so the host
+   must stop the guest or move it on. After a stage-2 permission fault HPFAR_EL2 need not be valid (Arm DDI 0601): a
+   host whose attributes allow a range for reading or for writing alone finds the IPA itself (AT S1E1R, AT S1E1W). */
+uint64_t ritm_trap(const struct ritm_policy *policy, struct ritm_cores *cores, uint64_t core, uint64_t esr,
+                   uint64_t fipa, uint64_t far, uint64_t vbar, struct ritm_trap_result *trapped);
 
 /* Gives a core the reply that it waits for (enum ritm_reply_kind). Values and error that the kind does not
    use make no difference; the buffer of values must be readable all the same. Refusals 10, 14, 15. */
-uint64_t ritm_reply(uint8_t cores[RITM_CORES_SIZE], uint64_t core, uint64_t kind,
-                    const uint8_t values[RITM_VALUES_SIZE], int32_t error);
+uint64_t ritm_reply(struct ritm_cores *cores, uint64_t core, uint64_t kind, const struct ritm_values *values,
+                    int32_t error);
 
 /* Reads a core's register: x0 to x30 by their index, and 0 for index 31. Refusals 10, 17. */
-uint64_t ritm_read_gpr(const uint8_t cores[RITM_CORES_SIZE], uint64_t core, uint64_t index,
-                       uint8_t word[RITM_WORD_RESULT_SIZE]);
+uint64_t ritm_read_gpr(const struct ritm_cores *cores, uint64_t core, uint64_t index, struct ritm_word_result *word);
 
 /* Writes a core's register, whether it waits or not; index 31 takes no write. Refusals 10, 17. */
-uint64_t ritm_write_gpr(uint8_t cores[RITM_CORES_SIZE], uint64_t core, uint64_t index, uint64_t value);
+uint64_t ritm_write_gpr(struct ritm_cores *cores, uint64_t core, uint64_t index, uint64_t value);
 
 /*
  * The suspend map.
  */
 
 /* Makes the map fresh: every place free. */
-uint64_t ritm_fresh_map(uint8_t map[RITM_MAP_SIZE]);
+uint64_t ritm_fresh_map(struct ritm_suspend_map *map);
 
 /* Removes the first entry with the key, then puts the new one into the first free place. Refusal 16. */
-uint64_t ritm_insert(uint8_t map[RITM_MAP_SIZE], uint64_t key, uint64_t entry_point, uint64_t context_id);
+uint64_t ritm_insert(struct ritm_suspend_map *map, uint64_t key, uint64_t entry_point, uint64_t context_id);
 
 /* Looks up the first entry with the key. No refusal: none is found 0. */
-uint64_t ritm_get(const uint8_t map[RITM_MAP_SIZE], uint64_t key, uint8_t entry[RITM_ENTRY_RESULT_SIZE]);
+uint64_t ritm_get(const struct ritm_suspend_map *map, uint64_t key, struct ritm_entry_result *entry);
 
 /* Removes the first entry with the key, and gives it. No refusal: none is found 0. */
-uint64_t ritm_remove(uint8_t map[RITM_MAP_SIZE], uint64_t key, uint8_t entry[RITM_ENTRY_RESULT_SIZE]);
+uint64_t ritm_remove(struct ritm_suspend_map *map, uint64_t key, struct ritm_entry_result *entry);
 
 /*
  * Their parts.
  */
 
 /* Decodes the access that a data abort's ISS describes. Refusal 19. */
-uint64_t ritm_decode(uint32_t iss, uint64_t fipa, uint64_t far, uint8_t access[RITM_ACCESS_RESULT_SIZE]);
+uint64_t ritm_decode(uint32_t iss, uint64_t fipa, uint64_t far, struct ritm_access_result *access);
 
 /* The loaded value as the access of this ISS puts it into its register. Refusal 19. */
-uint64_t ritm_extend_read_result(uint32_t iss, uint64_t value, uint8_t word[RITM_WORD_RESULT_SIZE]);
+uint64_t ritm_extend_read_result(uint32_t iss, uint64_t value, struct ritm_word_result *word);
 
 /* Rounds an address down to a page boundary. No refusal. */
-uint64_t ritm_align_down_to_page(uint64_t address, uint8_t word[RITM_WORD_RESULT_SIZE]);
+uint64_t ritm_align_down_to_page(uint64_t address, struct ritm_word_result *word);
 
 /* Rounds an address up to a page boundary. Refusal 18. */
-uint64_t ritm_align_up_to_page(uint64_t address, uint8_t word[RITM_WORD_RESULT_SIZE]);
+uint64_t ritm_align_up_to_page(uint64_t address, struct ritm_word_result *word);
 
 /* The size in bytes of a buffer by its number (enum ritm_buffer), and 0 for any other number. */
 uint64_t ritm_buffer_size(uint64_t buffer);

@@ -11,6 +11,19 @@
 
 #define PAGE UINT64_C(0x1000)
 
+/* A buffer of a struct type has its size, and stands at a multiple of 8. */
+#define IS_A_BUFFER(type, size) _Static_assert(sizeof(struct type) == (size) && _Alignof(struct type) == 8, #type)
+IS_A_BUFFER(ritm_policy, RITM_POLICY_SIZE);
+IS_A_BUFFER(ritm_cores, RITM_CORES_SIZE);
+IS_A_BUFFER(ritm_suspend_map, RITM_MAP_SIZE);
+IS_A_BUFFER(ritm_registers, RITM_REGISTERS_SIZE);
+IS_A_BUFFER(ritm_values, RITM_VALUES_SIZE);
+IS_A_BUFFER(ritm_trap_result, RITM_TRAP_RESULT_SIZE);
+IS_A_BUFFER(ritm_find_result, RITM_FIND_RESULT_SIZE);
+IS_A_BUFFER(ritm_entry_result, RITM_ENTRY_RESULT_SIZE);
+IS_A_BUFFER(ritm_access_result, RITM_ACCESS_RESULT_SIZE);
+IS_A_BUFFER(ritm_word_result, RITM_WORD_RESULT_SIZE);
+
 /* What an observation gives where there is nothing to see. */
 #define NOT_SEEN UINT64_MAX
 
@@ -26,10 +39,10 @@ struct row {
 #define NAMED(number) #number, number
 
 /* The place of a word among the words of a buffer. */
-static uint64_t place_of(uint64_t word, const uint8_t *bytes, size_t size)
+static uint64_t place_of(uint64_t word, const void *buffer, size_t size)
 {
     for (size_t k = 0; k < size / 8; k++) {
-        if (ritm_get_word(bytes, k) == word) {
+        if (ritm_get_word(buffer, k) == word) {
             return k;
         }
     }
@@ -52,7 +65,7 @@ static uint64_t size(const uint64_t *a)
 #define REGION_SIZE (3 * PAGE)
 #define APART UINT64_C(0x300000)
 
-static void make_policy(uint8_t *policy, uint64_t allowed, uint64_t regions, uint64_t read, uint64_t write)
+static void make_policy(struct ritm_policy *policy, uint64_t allowed, uint64_t regions, uint64_t read, uint64_t write)
 {
     ritm_fresh_policy(policy);
     for (uint64_t k = 0; k < allowed; k++) {
@@ -66,17 +79,17 @@ static void make_policy(uint8_t *policy, uint64_t allowed, uint64_t regions, uin
 /* Allows a range. Arguments: ranges and regions held, base, size. */
 static uint64_t allow(const uint64_t *a)
 {
-    uint8_t policy[RITM_POLICY_SIZE];
-    make_policy(policy, a[0], a[1], 0, 0);
-    return ritm_allow_range(policy, a[2], a[3], 0);
+    struct ritm_policy policy;
+    make_policy(&policy, a[0], a[1], 0, 0);
+    return ritm_allow_range(&policy, a[2], a[3], 0);
 }
 
 /* Handles a range. Arguments: ranges and regions held, base, size, handlers. */
 static uint64_t handle(const uint64_t *a)
 {
-    uint8_t policy[RITM_POLICY_SIZE];
-    make_policy(policy, a[0], a[1], 0, 0);
-    return ritm_handle_range(policy, a[2], a[3], a[4], a[5]);
+    struct ritm_policy policy;
+    make_policy(&policy, a[0], a[1], 0, 0);
+    return ritm_handle_range(&policy, a[2], a[3], a[4], a[5]);
 }
 
 /* How many numbers name a handler: the first that does not. */
@@ -93,33 +106,33 @@ static uint64_t known_handlers(const uint64_t *a)
 /* How much a policy holds when it is asked to hold this much, by the word of the count. */
 static uint64_t held(const uint64_t *a)
 {
-    uint8_t policy[RITM_POLICY_SIZE];
-    make_policy(policy, a[0], a[1], 0, 0);
-    return ritm_get_word(policy, (size_t)a[2]);
+    struct ritm_policy policy;
+    make_policy(&policy, a[0], a[1], 0, 0);
+    return ritm_get_word(&policy, (size_t)a[2]);
 }
 
 /* Where a policy of 3 ranges and 2 regions holds a word. Arguments: the word, the regions' handlers. */
 static uint64_t policy_place(const uint64_t *a)
 {
-    uint8_t policy[RITM_POLICY_SIZE];
-    make_policy(policy, 3, 2, a[1], a[2]);
-    return place_of(a[0], policy, sizeof policy);
+    struct ritm_policy policy;
+    make_policy(&policy, 3, 2, a[1], a[2]);
+    return place_of(a[0], &policy, sizeof policy);
 }
 
 /* Where the result of a search holds a word, for the address 5 above region 2. */
 static uint64_t find_place(const uint64_t *a)
 {
-    uint8_t policy[RITM_POLICY_SIZE];
-    uint8_t found[RITM_FIND_RESULT_SIZE];
-    make_policy(policy, 0, 3, 0, 0);
-    ritm_find(policy, REGION(2) + 5, found);
-    return place_of(a[0], found, sizeof found);
+    struct ritm_policy policy;
+    struct ritm_find_result found;
+    make_policy(&policy, 0, 3, 0, 0);
+    ritm_find(&policy, REGION(2) + 5, &found);
+    return place_of(a[0], &found, sizeof found);
 }
 
 /*
  * The cores. Core 1 takes one trap after a save in which register word k holds SAVED(k), but for x0 where a call is
- * named, and 5, the register of loads and stores, where one is to be stored. SAVED(32), the SPSR, has the mode of EL1 on
- * its own stack, 5, in bits 4:0.
+ * named, and 5, the register of loads and stores, where one is to be stored. SAVED(32), the SPSR, has the mode of EL1
+ * on its own stack, 5, in bits 4:0.
  */
 
 #define SAVED(k) (UINT64_C(0x1000005) + (k))
@@ -144,31 +157,31 @@ static uint64_t find_place(const uint64_t *a)
 #define NO_WORD 48
 
 struct machine {
-    uint8_t policy[RITM_POLICY_SIZE];
-    uint8_t cores[RITM_CORES_SIZE];
-    uint8_t trapped[RITM_TRAP_RESULT_SIZE];
+    struct ritm_policy policy;
+    struct ritm_cores cores;
+    struct ritm_trap_result trapped;
 };
 
 static uint64_t trap_on(struct machine *machine, uint64_t core, uint64_t esr, uint64_t offset, uint64_t vbar)
 {
-    return ritm_trap(machine->policy, machine->cores, core, esr, REGION(0) / PAGE, FAR + offset, vbar,
-                     machine->trapped);
+    return ritm_trap(&machine->policy, &machine->cores, core, esr, REGION(0) / PAGE, FAR + offset, vbar,
+                     &machine->trapped);
 }
 
 /* Core 1 after a trap. Arguments, here and below: its ESR, its offset in the filtered MMIO page, x0 or 0. */
 static void make_machine(struct machine *machine, const uint64_t *trap)
 {
-    uint8_t registers[RITM_REGISTERS_SIZE];
+    struct ritm_registers registers;
     for (size_t k = 0; k < RITM_REGISTERS_SIZE / 8; k++) {
-        ritm_put_word(registers, k, SAVED(k));
+        ritm_put_word(&registers, k, SAVED(k));
     }
-    ritm_put_word(registers, 0, trap[2] != 0 ? trap[2] : SAVED(0));
+    ritm_put_word(&registers, 0, trap[2] != 0 ? trap[2] : SAVED(0));
     if (trap[0] == STORE) {
-        ritm_put_word(registers, 5, UINT64_C(0x123456789abcdef0));
+        ritm_put_word(&registers, 5, UINT64_C(0x123456789abcdef0));
     }
-    make_policy(machine->policy, 0, 1, RITM_HANDLER_FILTERED_MMIO, RITM_HANDLER_FILTERED_MMIO);
-    ritm_fresh_cores(machine->cores);
-    ritm_save(machine->cores, 1, registers);
+    make_policy(&machine->policy, 0, 1, RITM_HANDLER_FILTERED_MMIO, RITM_HANDLER_FILTERED_MMIO);
+    ritm_fresh_cores(&machine->cores);
+    ritm_save(&machine->cores, 1, &registers);
     if (trap[0] != NO_TRAP) {
         trap_on(machine, 1, trap[0], trap[1], VBAR);
     }
@@ -179,7 +192,7 @@ static uint64_t trap_kind(const uint64_t *a)
 {
     struct machine machine;
     make_machine(&machine, a);
-    return ritm_get_word(machine.trapped, RITM_TRAP_KIND);
+    return ritm_get_word(&machine.trapped, RITM_TRAP_KIND);
 }
 
 /* What core 1 waits for after a trap. */
@@ -187,7 +200,7 @@ static uint64_t wait_code(const uint64_t *a)
 {
     struct machine machine;
     make_machine(&machine, a);
-    return ritm_get_word(machine.cores, RITM_CORE_WORDS + RITM_CORE_WAIT);
+    return ritm_get_word(&machine.cores, RITM_CORE_WORDS + RITM_CORE_WAIT);
 }
 
 /* Where a trap's result holds a word. The fourth argument is the word. */
@@ -195,7 +208,7 @@ static uint64_t trap_place(const uint64_t *a)
 {
     struct machine machine;
     make_machine(&machine, a);
-    return place_of(a[3], machine.trapped, sizeof machine.trapped);
+    return place_of(a[3], &machine.trapped, sizeof machine.trapped);
 }
 
 /* Where the cores hold a word after a trap. The fourth argument is the word. */
@@ -203,7 +216,7 @@ static uint64_t core_place(const uint64_t *a)
 {
     struct machine machine;
     make_machine(&machine, a);
-    return place_of(a[3], machine.cores, sizeof machine.cores);
+    return place_of(a[3], &machine.cores, sizeof machine.cores);
 }
 
 /* Which word of a save's registers a word of core 1 came from. */
@@ -211,7 +224,7 @@ static uint64_t saved_place(const uint64_t *a)
 {
     struct machine machine;
     make_machine(&machine, (uint64_t[]){NO_TRAP, 0, 0});
-    return ritm_get_word(machine.cores, (size_t)a[0]) - SAVED(0);
+    return ritm_get_word(&machine.cores, (size_t)a[0]) - SAVED(0);
 }
 
 /* A second trap, a load where there is no word. The other arguments are its core, its ESR, its VBAR. */
@@ -225,10 +238,10 @@ static uint64_t second_trap(const uint64_t *a)
 /* A reply after a trap. The other arguments are its core and its kind. */
 static uint64_t reply(const uint64_t *a)
 {
-    static const uint8_t values[RITM_VALUES_SIZE];
+    static const struct ritm_values values;
     struct machine machine;
     make_machine(&machine, a);
-    return ritm_reply(machine.cores, a[3], a[4], values, 0);
+    return ritm_reply(&machine.cores, a[3], a[4], &values, 0);
 }
 
 /* A reply with VALUE(k) and the error -7 leaves these in x0, x1, x4 and x17. */
@@ -239,17 +252,17 @@ static uint64_t reply(const uint64_t *a)
 static uint64_t reply_kind(const uint64_t *a)
 {
     static const size_t places[] = {0, 1, 4, 17};
-    uint8_t values[RITM_VALUES_SIZE];
+    struct ritm_values values;
     for (size_t k = 0; k < RITM_VALUES_COUNT; k++) {
-        ritm_put_word(values, k, VALUE(k));
+        ritm_put_word(&values, k, VALUE(k));
     }
     for (uint64_t kind = 0; kind < 5; kind++) {
         struct machine machine;
         size_t equal = 0;
         make_machine(&machine, (uint64_t[]){HVC, 0, 0});
-        ritm_reply(machine.cores, 1, kind, values, -7);
+        ritm_reply(&machine.cores, 1, kind, &values, -7);
         for (size_t k = 0; k < 4; k++) {
-            equal += ritm_get_word(machine.cores, RITM_CORE_WORDS + places[k]) == a[k];
+            equal += ritm_get_word(&machine.cores, RITM_CORE_WORDS + places[k]) == a[k];
         }
         if (equal == 4) {
             return kind;
@@ -262,18 +275,18 @@ static uint64_t reply_kind(const uint64_t *a)
 static uint64_t values_used(const uint64_t *a)
 {
     static const uint64_t call[] = {HVC, 0, 0};
-    uint8_t values[RITM_VALUES_SIZE] = {0};
+    struct ritm_values values = {{0}};
     struct machine zeros;
     uint64_t used = 0;
     make_machine(&zeros, call);
-    ritm_reply(zeros.cores, 1, a[0], values, 0);
+    ritm_reply(&zeros.cores, 1, a[0], &values, 0);
     for (size_t k = 0; k < RITM_VALUES_COUNT; k++) {
         struct machine machine;
         make_machine(&machine, call);
-        ritm_put_word(values, k, VALUE(k));
-        ritm_reply(machine.cores, 1, a[0], values, 0);
-        ritm_put_word(values, k, 0);
-        used += memcmp(machine.cores, zeros.cores, sizeof zeros.cores) != 0;
+        ritm_put_word(&values, k, VALUE(k));
+        ritm_reply(&machine.cores, 1, a[0], &values, 0);
+        ritm_put_word(&values, k, 0);
+        used += memcmp(&machine.cores, &zeros.cores, sizeof zeros.cores) != 0;
     }
     return used;
 }
@@ -284,10 +297,10 @@ static uint64_t handler_code(const uint64_t *a)
     for (uint64_t code = 0; code < RITM_HANDLER_COUNT; code++) {
         struct machine machine;
         make_machine(&machine, (uint64_t[]){NO_TRAP, 0, 0});
-        make_policy(machine.policy, 0, 1, code, code);
+        make_policy(&machine.policy, 0, 1, code, code);
         trap_on(&machine, 1, LOAD, WORD, VBAR);
-        if (ritm_get_word(machine.trapped, RITM_TRAP_KIND) == a[0]) {
-            return ritm_get_word(machine.policy, RITM_POLICY_REGIONS + RITM_REGION_READ);
+        if (ritm_get_word(&machine.trapped, RITM_TRAP_KIND) == a[0]) {
+            return ritm_get_word(&machine.policy, RITM_POLICY_REGIONS + RITM_REGION_READ);
         }
     }
     return NOT_SEEN;
@@ -296,10 +309,10 @@ static uint64_t handler_code(const uint64_t *a)
 /* Reads a register. Arguments: core, index. */
 static uint64_t read_gpr(const uint64_t *a)
 {
-    uint8_t cores[RITM_CORES_SIZE];
-    uint8_t word[RITM_WORD_RESULT_SIZE];
-    ritm_fresh_cores(cores);
-    return ritm_read_gpr(cores, a[0], a[1], word);
+    struct ritm_cores cores;
+    struct ritm_word_result word;
+    ritm_fresh_cores(&cores);
+    return ritm_read_gpr(&cores, a[0], a[1], &word);
 }
 
 /* The first core that there is not. */
@@ -321,7 +334,7 @@ static uint64_t first_missing_core(const uint64_t *a)
 #define CONTEXT_ID(k) (UINT64_C(0x300) + (k))
 
 /* Inserts as many entries as this, and gives the number of the first refusal or 0. */
-static uint64_t fill_map(uint8_t *map, uint64_t entries)
+static uint64_t fill_map(struct ritm_suspend_map *map, uint64_t entries)
 {
     uint64_t number = RITM_ACCEPTED;
     ritm_fresh_map(map);
@@ -333,26 +346,26 @@ static uint64_t fill_map(uint8_t *map, uint64_t entries)
 
 static uint64_t insert(const uint64_t *a)
 {
-    uint8_t map[RITM_MAP_SIZE];
-    return fill_map(map, a[0]);
+    struct ritm_suspend_map map;
+    return fill_map(&map, a[0]);
 }
 
 /* Where a map of two entries holds a word. */
 static uint64_t map_place(const uint64_t *a)
 {
-    uint8_t map[RITM_MAP_SIZE];
-    fill_map(map, 2);
-    return place_of(a[0], map, sizeof map);
+    struct ritm_suspend_map map;
+    fill_map(&map, 2);
+    return place_of(a[0], &map, sizeof map);
 }
 
 /* Where the result of a look-up holds a word. */
 static uint64_t entry_place(const uint64_t *a)
 {
-    uint8_t map[RITM_MAP_SIZE];
-    uint8_t entry[RITM_ENTRY_RESULT_SIZE];
-    fill_map(map, 1);
-    ritm_get(map, KEY(0), entry);
-    return place_of(a[0], entry, sizeof entry);
+    struct ritm_suspend_map map;
+    struct ritm_entry_result entry;
+    fill_map(&map, 1);
+    ritm_get(&map, KEY(0), &entry);
+    return place_of(a[0], &entry, sizeof entry);
 }
 
 /*
@@ -362,21 +375,21 @@ static uint64_t entry_place(const uint64_t *a)
 /* Where a decoded access holds a word. Arguments: the word, the ISS. */
 static uint64_t access_place(const uint64_t *a)
 {
-    uint8_t access[RITM_ACCESS_RESULT_SIZE];
-    ritm_decode((uint32_t)a[1], 1, 0, access);
-    return place_of(a[0], access, sizeof access);
+    struct ritm_access_result access;
+    ritm_decode((uint32_t)a[1], 1, 0, &access);
+    return place_of(a[0], &access, sizeof access);
 }
 
 static uint64_t decode(const uint64_t *a)
 {
-    uint8_t access[RITM_ACCESS_RESULT_SIZE];
-    return ritm_decode((uint32_t)a[0], 0, 0, access);
+    struct ritm_access_result access;
+    return ritm_decode((uint32_t)a[0], 0, 0, &access);
 }
 
 static uint64_t align_up(const uint64_t *a)
 {
-    uint8_t word[RITM_WORD_RESULT_SIZE];
-    return ritm_align_up_to_page(a[0], word);
+    struct ritm_word_result word;
+    return ritm_align_up_to_page(a[0], &word);
 }
 
 /* More than any list holds. */
