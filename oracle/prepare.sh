@@ -6,7 +6,7 @@
 
 archive=${RITM_LIB_DIR:-$oracle/../target/staticlib}
 [ -f "$archive/libritm.a" ] ||
-    missing 5 "the archive is missing: no $archive/libritm.a; build it with rt staticlib ritm"
+    missing 5 "the archive is missing: no $archive/libritm.a; build it with board/build-archive"
 RITM_LIB_DIR=$(cd "$archive" && pwd)
 
 CARGO_TARGET_DIR=${CARGO_TARGET_DIR:-$oracle/../target/oracle}

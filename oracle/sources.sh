@@ -5,7 +5,7 @@
 # are then not compared with the recorded ones.
 
 oracle=$(cd "$(dirname "$0")" && pwd)
-. "$oracle/../tests/prepare.sh"
+. "$oracle/../tests/needs.sh"
 
 default_sources() {
     echo "$oracle/$(sed -n 's/^RITM_SRC = { value = "\(.*\)", relative = true }$/\1/p' "$oracle/.cargo/config.toml")"

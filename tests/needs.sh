@@ -1,4 +1,4 @@
-# Sourced by demo, by the scripts of tests/ and by those of oracle/: finds what a script needs before anything is proved
+# Sourced by demo, by the scripts of tests/, of board/ and of oracle/: finds what a script needs before anything is proved
 # or built. What is missing is told in one line. The functions from find_kit on work in the repository's top folder.
 
 # Says in one line what is missing, and ends the script: STATUS TEXT.
@@ -7,14 +7,38 @@ missing() {
     exit "$1"
 }
 
+# Says which package of Debian's brings a command, if this file knows.
+brought_by() {
+    case $1 in
+    aarch64-linux-gnu-gcc) echo " (Debian: gcc-aarch64-linux-gnu)" ;;
+    qemu-aarch64 | qemu-x86_64) echo " (Debian: qemu-user)" ;;
+    qemu-system-aarch64) echo " (Debian: qemu-system-arm)" ;;
+    esac
+}
+
 # Says which of these commands is not on the path, if one is not.
 lacks() {
     for command; do
         if ! command -v "$command" >/dev/null; then
-            echo "there is no $command on the path"
+            echo "there is no $command on the path$(brought_by "$command")"
             return
         fi
     done
+}
+
+# Says what is missing to run the archives for 64-bit Arm in user programs, if something is.
+lacks_arm_user() {
+    lacking=$(lacks cc aarch64-linux-gnu-gcc qemu-aarch64)
+    if [ -n "$lacking" ]; then
+        echo "$lacking"
+    elif [ ! -f "$(aarch64-linux-gnu-gcc -print-file-name=libc.a)" ]; then
+        echo "aarch64-linux-gnu-gcc has no C library (Debian: libc6-dev-arm64-cross)"
+    fi
+}
+
+# The same of the archive at EL2.
+lacks_arm_board() {
+    lacks cc aarch64-linux-gnu-gcc qemu-system-aarch64
 }
 
 # Says what is missing for the cargo package in a folder, if something is: cargo, as new as the package asks for, or cc,
@@ -65,11 +89,4 @@ use_memory() {
         export TMPDIR=/dev/shm
     fi
     rm -r "$probe"
-}
-
-# Proves the library and writes its archive. rt staticlib proves the crates below one after the other, so rt check
-# proves them before it, several at a time.
-build_archive() {
-    # shellcheck disable=SC2046 # a word a crate
-    rt check $(sed -n 's/^ritm://p' crates.txt) && rt staticlib ritm
 }

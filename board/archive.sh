@@ -1,0 +1,108 @@
+# Sourced by board/build-archive and board/test-edits, in the repository's top folder: the kit's own clang, how it
+# compiles the library's module for 64-bit Arm, and what is checked of the module and of the archives.
+KIT=$(dirname "$(dirname "$(rt doc)")")
+TOOLCHAIN=on/$(uname -m)/toolchain
+CLANG=$KIT/$TOOLCHAIN/bin/clang
+TARGET=aarch64-none-elf
+WORK=$PWD/target/board
+
+# No call takes more stack than this.
+MOST_STACK=1024
+
+# The module as it was proved, and as it is compiled for 64-bit Arm.
+MODULE=$WORK/x86_64.ll
+ARM_MODULE=$WORK/aarch64.ll
+
+# A host at EL2 saves no other registers of its guest.
+REGISTERS=-mgeneral-regs-only
+
+# The kit's words for an archive, and ours: no position-independent code, a section a function, and the frames' sizes.
+compile() { # MODULE OBJECT [WORDS...]
+    module=$1 object=$2
+    shift 2
+    "$CLANG" --target=$TARGET -march=armv8-a $REGISTERS -fno-pic -ffunction-sections -fdata-sections \
+        -fstack-size-section -mllvm -trap-unreachable -mllvm -no-trap-after-noreturn --no-default-config \
+        -no-canonical-prefixes -fintegrated-cc1 -fno-crash-diagnostics -Werror -O3 "$@" -c -x ir "$module" -o "$object"
+}
+
+# Ends the script, since what was made is not what it should be.
+fail() {
+    echo "build-archive: $*" >&2
+    exit 1
+}
+
+# Every word that a module for both targets may have: types of 1 to 64 bits and pointers, whose sizes and alignments
+# agree, arithmetic on them, branches, calls, and accesses with their alignment. So there is no floating point, vector,
+# i128, assembly, volatile or atomic access, global variable, or feature of a processor.
+KNOWN_WORDS='
+    ptr i64 i32 i16 i8 i1 x void label true false align noundef zeroext nuw nsw inbounds to start
+    define declare internal attributes source_filename "rattle"
+    alloca load store getelementptr call ret br switch unreachable
+    add sub mul udiv urem and or xor shl lshr ashr zext sext trunc icmp eq ne ult ule ugt uge slt sle sgt sge
+    nounwind nocallback nofree willreturn memory argmem read write readwrite readonly writeonly captures none immarg
+    "probe-stack" "inline-asm"'
+
+# The words of a module: what is no comment, name, label, number or note, and no line that names the target.
+words_of() { # MODULE
+    sed -e '/^target /d' -e 's/;.*//' -e 's/@"[^"]*"//g' -e 's/![^, ]*"[^"]*"//g' -e 's/[%@!#][-A-Za-z0-9._$]*//g' \
+        -e 's/^[a-z]*\.*[0-9]*://' "$1" | grep -oE '"[^"]*"|[A-Za-z_<][A-Za-z0-9_.]*' | sort -u
+}
+
+check_module() { # MODULE
+    # shellcheck disable=SC2086 # a word a line
+    printf '%s\n' $KNOWN_WORDS | sort >"$WORK/known"
+    unknown=$(words_of "$1" | comm -23 - "$WORK/known" | tr '\n' ' ')
+    [ -z "$unknown" ] || fail "the module has what may differ between the targets: $unknown"
+    others=$(grep '^declare' "$1" | grep -vE '@llvm\.mem(move\.p0\.p0|set\.p0)\.i64\(') &&
+        fail "the module calls other code: $others"
+    # AAPCS64 leaves the upper half of a 32-bit argument open, and no exported function may take it for extended.
+    others=$(grep '^define' "$1" | grep -v '^define internal' |
+        grep -vE '^define noundef i64 @ritm_[a-z_]*\(((i32|i64|ptr) noundef %a[0-9](, )?)*\) #0 \{$') &&
+        fail "an exported function has arguments that may differ between the targets: $others"
+    return 0
+}
+
+# The functions that the header declares.
+declared() {
+    sed -n 's/^uint64_t \(ritm_[a-z_]*\)(.*/\1/p' include/ritm.h | sort
+}
+
+# The stack that a call takes at most: the largest frame of an exported function and those of all others.
+stack_of() { # ARCHIVE
+    "$WORK/kit/llvm-readelf" --stack-sizes "$1" | awk '
+        $1 ~ /^[0-9]+$/ && $2 ~ /^ritm_/ { if ($1 > most) most = $1; next }
+        $1 ~ /^[0-9]+$/ { others += $1 }
+        END { print most + others }'
+}
+
+# Writes the archive's instructions, one to a line, without addresses and names.
+disassemble() { # ARCHIVE FILE
+    "$WORK/kit/llvm-objdump" -d --no-show-raw-insn "$1" |
+        sed -n 's/^ *[0-9a-f]*:[[:space:]]*//p' | sed -e 's/<.*>//' -e 's,//.*,,' >"$2"
+}
+
+check_archive() { # ARCHIVE NEEDED
+    "$WORK/kit/llvm-nm" --extern-only --defined-only "$1" | awk 'NF == 3 { print $3 }' | sort >"$WORK/defined"
+    declared | diff - "$WORK/defined" || fail "$1 does not define what include/ritm.h declares"
+    needed=$("$WORK/kit/llvm-nm" -u "$1" | awk '$1 == "U" { print $2 }' | sort | tr '\n' ' ')
+    [ "$needed" = "$2 " ] || fail "$1 needs $needed and not $2"
+    disassemble "$1" "$WORK/instructions"
+    if grep -E '[[:space:],{[][bhsdqvz][0-9]+([^0-9]|$)' "$WORK/instructions"; then
+        fail "$1 uses floating-point or vector registers"
+    fi
+    stack=$(stack_of "$1")
+    [ "$stack" -le $MOST_STACK ] || fail "a call takes $stack bytes of stack, more than $MOST_STACK"
+    size=$("$WORK/kit/llvm-size" "$1" | awk 'NR == 2 && $2 + $3 == 0 { print $1 }')
+    [ -n "$size" ] || fail "$1 has data of its own"
+    echo "archive: $1: $size bytes in $(grep -c . "$WORK/instructions") instructions, at most $stack bytes of stack," \
+        "needs $2"
+}
+
+# Every access of the archive, to the stack as to buffers, is of 64 bits at a multiple of 8.
+check_words_alone() { # ARCHIVE
+    disassemble "$1" "$WORK/instructions"
+    if grep -E '^(ld|st)[a-z]*[bh][[:space:]]|^(ld|st)[a-z0-9]*[[:space:]]w|^(ld|st).*#-?0x[0-9a-f]*[1-79a-f](\]|$)' \
+        "$WORK/instructions"; then
+        fail "$1 makes an access other than of a 64-bit word"
+    fi
+}

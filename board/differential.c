@@ -1,0 +1,354 @@
+/*
+ * Makes pseudo-random calls of every function of the archive, on fresh states and on any bytes. Built for two machines,
+ * it must make the same calls on both and come to the same outcome. It needs memset of a C library and nothing else.
+ */
+#include <stddef.h>
+#include <string.h>
+
+#include "differential.h"
+#include "ritm.h"
+
+#define PAGE UINT64_C(0x1000)
+#define FILTERED_MMIO_BASE UINT64_C(0x0f000000)
+
+/* Calls between two fresh states. */
+#define LIST_LENGTH 256
+
+/* A buffer stands between bytes that no call may change. */
+#define MARGIN 16
+#define MARK 0xa5
+struct buffer {
+    _Alignas(16) uint8_t bytes[RITM_CORES_SIZE + 2 * MARGIN];
+    uint8_t *start;
+    size_t size;
+};
+
+enum call {
+    FRESH_POLICY,
+    ALLOW_RANGE,
+    HANDLE_RANGE,
+    FIND,
+    FRESH_CORES,
+    SAVE,
+    TRAP,
+    REPLY,
+    READ_GPR,
+    WRITE_GPR,
+    FRESH_MAP,
+    INSERT,
+    GET,
+    REMOVE,
+    DECODE,
+    EXTEND_READ_RESULT,
+    ALIGN_DOWN,
+    ALIGN_UP,
+    BUFFER_SIZE,
+    CALLS
+};
+
+static struct buffer policy, cores, map, registers, values, trapped, found, entry, access_result, word;
+static struct outcome outcome;
+static uint64_t state;
+
+/* A buffer as the header has it, which need not be aligned here. */
+#define AS(type, buffer) ((struct type *)(void *)(buffer).start)
+
+/*
+ * Random numbers: SplitMix64.
+ */
+
+static uint64_t any(void)
+{
+    uint64_t z = state += UINT64_C(0x9e3779b97f4a7c15);
+    z = (z ^ z >> 30) * UINT64_C(0xbf58476d1ce4e5b9);
+    z = (z ^ z >> 27) * UINT64_C(0x94d049bb133111eb);
+    return z ^ z >> 31;
+}
+
+static uint64_t below(uint64_t limit)
+{
+    return any() % limit;
+}
+
+static int once_in(uint64_t times)
+{
+    return below(times) == 0;
+}
+
+/* Numbers at which something may change, besides any. */
+static uint64_t number(void)
+{
+    static const uint64_t edges[] = {0, 1, 7, 8, 30, 31, 32, PAGE - 1, PAGE, PAGE + 1, -PAGE - 1, -PAGE, -PAGE + 1, -1};
+    const uint64_t shift = below(64);
+    return once_in(2) ? edges[below(sizeof edges / sizeof edges[0])] : any() >> shift;
+}
+
+/* The bases that are allowed and handled are few, so that they meet. */
+static uint64_t base(void)
+{
+    if (once_in(16)) {
+        return number();
+    }
+    return once_in(4) ? FILTERED_MMIO_BASE : PAGE * below(96);
+}
+
+static uint64_t size(void)
+{
+    return once_in(12) ? number() : PAGE * (1 + below(3));
+}
+
+static uint64_t core(void)
+{
+    return once_in(24) ? number() : below(RITM_MAX_CORES);
+}
+
+static uint64_t function_id(void)
+{
+    static const uint64_t starts[] = {0x84000000, 0xc4000000, 0x184000000, 0xff000000};
+    const uint64_t start = starts[below(4)];
+    return once_in(8) ? any() : start + below(40) - 4;
+}
+
+/* Bits 31:0 are an ISS, of which ISV and 64 bits are frequent. */
+static uint64_t iss(void)
+{
+    uint64_t bits = any();
+    if (!once_in(8)) {
+        bits |= UINT64_C(1) << 24;
+    }
+    if (!once_in(3)) {
+        bits |= UINT64_C(3) << 22;
+    }
+    return bits;
+}
+
+static uint64_t esr(void)
+{
+    static const uint64_t classes[] = {0x16, 0x17, 0x24, 0x24, 0x24, 0x24, 0x24, 0x24};
+    const uint64_t ec = once_in(24) ? below(64) : classes[below(8)];
+    const uint64_t high = once_in(8) ? any() << 32 : 0;
+    return high | ec << 26 | (iss() & 0x3ffffff);
+}
+
+static uint64_t far(void)
+{
+    const uint64_t page = any() & ~(PAGE - 1);
+    return page | (once_in(4) ? below(PAGE) : 8 * below(7));
+}
+
+static uint64_t fipa(void)
+{
+    const uint64_t page = once_in(2) ? FILTERED_MMIO_BASE / PAGE : base() / PAGE;
+    return page | (once_in(16) ? any() << 52 : 0);
+}
+
+/*
+ * Buffers.
+ */
+
+static void fill(struct buffer *buffer)
+{
+    for (size_t k = 0; k < buffer->size / 8; k++) {
+        ritm_put_word(buffer->start, k, once_in(2) ? below(8) : any());
+    }
+}
+
+/* Of the registers, x0 has a function identifier and some the value that the filtered MMIO page takes. */
+static void fill_registers(void)
+{
+    fill(&registers);
+    for (size_t k = 0; k < 31; k++) {
+        if (once_in(2)) {
+            ritm_put_word(registers.start, k, UINT64_C(0x123456789abcdef0));
+        }
+    }
+    ritm_put_word(registers.start, 0, function_id());
+}
+
+static void lend(struct buffer *buffer, size_t size, int aligned)
+{
+    const uint64_t offset = below(8);
+    memset(buffer->bytes, MARK, sizeof buffer->bytes);
+    buffer->start = buffer->bytes + MARGIN + (aligned ? 0 : offset);
+    buffer->size = size;
+    fill(buffer);
+}
+
+static void take(uint64_t w)
+{
+    outcome.hash = (outcome.hash ^ w) * UINT64_C(0x9e3779b97f4a7c15);
+    outcome.hash ^= outcome.hash >> 29;
+}
+
+static void take_buffer(const struct buffer *buffer)
+{
+    for (size_t k = 0; k < buffer->size / 8; k++) {
+        take(ritm_get_word(buffer->start, k));
+    }
+    for (size_t i = 0; i < MARGIN / 2; i++) {
+        outcome.changed_beside += *(buffer->start - 1 - i) != MARK || buffer->start[buffer->size + i] != MARK;
+    }
+}
+
+/*
+ * Calls.
+ */
+
+/* Both ABIs leave open what the upper half of a 32-bit argument's register holds. By these declarations of the same
+   functions anything stands there. */
+uint64_t wide_reply(struct ritm_cores *, uint64_t core, uint64_t kind, const struct ritm_values *,
+                    uint64_t error) __asm__("ritm_reply");
+uint64_t wide_decode(uint64_t iss, uint64_t fipa, uint64_t far, struct ritm_access_result *) __asm__("ritm_decode");
+uint64_t wide_extend(uint64_t iss, uint64_t value, struct ritm_word_result *) __asm__("ritm_extend_read_result");
+
+/* C leaves open which argument of a call is worked out first: what is drawn at random is drawn before the call. */
+static uint64_t make(enum call call)
+{
+    const uint64_t a = any();
+    const uint64_t b = any();
+    const uint64_t c = core();
+    const uint64_t n = number();
+    const uint64_t start = base();
+    const uint64_t length = size();
+    const uint64_t key = below(12);
+    const uint64_t index = below(34);
+    const uint64_t syndrome = esr();
+    const uint64_t low_iss = iss();
+    const uint64_t page = fipa();
+    const uint64_t address = far();
+    const uint64_t vbar = once_in(8) ? 0 : number();
+    switch (call) {
+    case FRESH_POLICY:
+        return ritm_fresh_policy(AS(ritm_policy, policy));
+    case ALLOW_RANGE:
+        return ritm_allow_range(AS(ritm_policy, policy), start, length, a);
+    case HANDLE_RANGE:
+        return ritm_handle_range(AS(ritm_policy, policy), start, length, a % 33 / 16, b % 33 / 16);
+    case FIND:
+        return ritm_find(AS(ritm_policy, policy), start + a % (2 * PAGE), AS(ritm_find_result, found));
+    case FRESH_CORES:
+        return ritm_fresh_cores(AS(ritm_cores, cores));
+    case SAVE:
+        fill_registers();
+        return ritm_save(AS(ritm_cores, cores), c, AS(ritm_registers, registers));
+    case TRAP:
+        return ritm_trap(AS(ritm_policy, policy), AS(ritm_cores, cores), c, syndrome, page, address, vbar,
+                         AS(ritm_trap_result, trapped));
+    case REPLY:
+        fill(&values);
+        return wide_reply(AS(ritm_cores, cores), c, a % 16 % 6, AS(ritm_values, values), b);
+    case READ_GPR:
+        return ritm_read_gpr(AS(ritm_cores, cores), c, index, AS(ritm_word_result, word));
+    case WRITE_GPR:
+        return ritm_write_gpr(AS(ritm_cores, cores), c, index, n);
+    case FRESH_MAP:
+        return ritm_fresh_map(AS(ritm_suspend_map, map));
+    case INSERT:
+        return ritm_insert(AS(ritm_suspend_map, map), key, a, b);
+    case GET:
+        return ritm_get(AS(ritm_suspend_map, map), key, AS(ritm_entry_result, entry));
+    case REMOVE:
+        return ritm_remove(AS(ritm_suspend_map, map), key, AS(ritm_entry_result, entry));
+    case DECODE:
+        return wide_decode(low_iss, n, a, AS(ritm_access_result, access_result));
+    case EXTEND_READ_RESULT:
+        return wide_extend(low_iss, a, AS(ritm_word_result, word));
+    case ALIGN_DOWN:
+        return ritm_align_down_to_page(n, AS(ritm_word_result, word));
+    case ALIGN_UP:
+        return ritm_align_up_to_page(n, AS(ritm_word_result, word));
+    default:
+        return ritm_buffer_size(key);
+    }
+}
+
+/* All that the call was lent. */
+static void take_what_was_lent(enum call call)
+{
+    static struct buffer *const lent[CALLS][3] = {
+        [FRESH_POLICY] = {&policy},
+        [ALLOW_RANGE] = {&policy},
+        [HANDLE_RANGE] = {&policy},
+        [FIND] = {&policy, &found},
+        [FRESH_CORES] = {&cores},
+        [SAVE] = {&cores, &registers},
+        [TRAP] = {&policy, &cores, &trapped},
+        [REPLY] = {&cores, &values},
+        [READ_GPR] = {&cores, &word},
+        [WRITE_GPR] = {&cores},
+        [FRESH_MAP] = {&map},
+        [INSERT] = {&map},
+        [GET] = {&map, &entry},
+        [REMOVE] = {&map, &entry},
+        [DECODE] = {&access_result},
+        [EXTEND_READ_RESULT] = {&word},
+        [ALIGN_DOWN] = {&word},
+        [ALIGN_UP] = {&word},
+    };
+    for (size_t i = 0; i < 3 && lent[call][i] != 0; i++) {
+        take_buffer(lent[call][i]);
+    }
+}
+
+/* Traps and builder calls come more often than the rest. */
+static enum call choose(void)
+{
+    static const enum call frequent[] = {ALLOW_RANGE, ALLOW_RANGE, HANDLE_RANGE, HANDLE_RANGE, SAVE,  SAVE,  TRAP,
+                                         TRAP,        TRAP,        REPLY,        REPLY,        REPLY, INSERT};
+    if (once_in(2)) {
+        return frequent[below(sizeof frequent / sizeof frequent[0])];
+    }
+    const enum call call = (enum call)below(CALLS);
+    const int makes_fresh = call == FRESH_POLICY || call == FRESH_CORES || call == FRESH_MAP;
+    return makes_fresh && !once_in(16) ? TRAP : call;
+}
+
+/* Every list begins with buffers at new places, once in four with any bytes in them, and else fresh but for the
+   filtered MMIO page. */
+static void begin_list(int aligned)
+{
+    lend(&policy, RITM_POLICY_SIZE, aligned);
+    lend(&cores, RITM_CORES_SIZE, aligned);
+    lend(&map, RITM_MAP_SIZE, aligned);
+    lend(&registers, RITM_REGISTERS_SIZE, aligned);
+    lend(&values, RITM_VALUES_SIZE, aligned);
+    lend(&trapped, RITM_TRAP_RESULT_SIZE, aligned);
+    lend(&found, RITM_FIND_RESULT_SIZE, aligned);
+    lend(&entry, RITM_ENTRY_RESULT_SIZE, aligned);
+    lend(&access_result, RITM_ACCESS_RESULT_SIZE, aligned);
+    lend(&word, RITM_WORD_RESULT_SIZE, aligned);
+    if (!once_in(4)) {
+        make(FRESH_POLICY);
+        make(FRESH_CORES);
+        make(FRESH_MAP);
+        ritm_handle_range(AS(ritm_policy, policy), FILTERED_MMIO_BASE, PAGE, 1, 1);
+    }
+}
+
+static void count(enum call call, uint64_t answer)
+{
+    if (call != BUFFER_SIZE && answer < ANSWERS) {
+        outcome.answers[answer]++;
+    }
+    if (call == TRAP) {
+        outcome.trap_kinds[ritm_get_word(trapped.start, RITM_TRAP_KIND) % TRAP_KINDS]++;
+    }
+}
+
+struct outcome make_random_calls(uint64_t seed, uint64_t calls, int aligned)
+{
+    outcome = (struct outcome){{0}, {0}, 0, 0};
+    state = seed;
+    for (uint64_t i = 0; i < calls; i++) {
+        if (i % LIST_LENGTH == 0) {
+            begin_list(aligned);
+        }
+        const enum call call = choose();
+        const uint64_t answer = make(call);
+        take(call);
+        take(answer);
+        take_what_was_lent(call);
+        count(call, answer);
+    }
+    return outcome;
+}

@@ -1,0 +1,22 @@
+/* Pseudo-random calls of every function of the archive, for machines whose answers are to be compared. */
+#ifndef DIFFERENTIAL_H
+#define DIFFERENTIAL_H
+
+#include <stdint.h>
+
+#define ANSWERS 21
+#define TRAP_KINDS 6
+
+/* How often each answer and each kind of trap was met, and a hash of everything that calls returned, wrote and left. */
+struct outcome {
+    uint64_t answers[ANSWERS];
+    uint64_t trap_kinds[TRAP_KINDS];
+    uint64_t hash;
+    /* How often a byte beside a buffer was changed. */
+    uint64_t changed_beside;
+};
+
+/* Makes calls on buffers that stand at multiples of 16, or anywhere. Where they stand changes no call. */
+struct outcome make_random_calls(uint64_t seed, uint64_t calls, int aligned);
+
+#endif

@@ -1,0 +1,47 @@
+/*
+ * Pseudo-random calls of every function at EL2, with alignment checks on: an access that is not aligned ends the run.
+ * RANDOM_SEED, RANDOM_CALLS and ALIGNED are given on the compiler's command line.
+ */
+#include "board.h"
+#include "console.h"
+#include "differential.h"
+
+static _Noreturn void turn_off(void)
+{
+    register uint64_t x0 __asm__("x0") = PSCI_SYSTEM_OFF;
+    __asm__ volatile("smc #0" : "+r"(x0) : : "memory");
+    for (;;) {
+    }
+}
+
+void handle_unexpected(void)
+{
+    struct line line = {.length = 0};
+    add_hex(&line, "EL2: an exception: ESR_EL2 ", READ_REGISTER(esr_el2));
+    add_hex(&line, ", ELR_EL2 ", READ_REGISTER(elr_el2));
+    add_hex(&line, ", FAR_EL2 ", READ_REGISTER(far_el2));
+    print_line(&line);
+    turn_off();
+}
+
+/* There is no guest. */
+void handle_sync_lower(void)
+{
+    handle_unexpected();
+}
+
+void start_core(void)
+{
+    struct line line = {.length = 0};
+    WRITE_REGISTER(sctlr_el2, 0x30c50830 | 1 << 1); /* A; the MMU is off */
+    __asm__ volatile("isb" : : : "memory");
+    const struct outcome outcome = make_random_calls(RANDOM_SEED, RANDOM_CALLS, ALIGNED);
+    add_decimal(&line, "seed ", RANDOM_SEED);
+    add_decimal(&line, ", calls ", RANDOM_CALLS);
+    add_hex(&line, ", hash ", outcome.hash);
+    print_line(&line);
+    if (outcome.changed_beside != 0) {
+        print("a byte beside a buffer was changed");
+    }
+    turn_off();
+}

@@ -1,0 +1,33 @@
+/*
+ * Prints the outcome of pseudo-random calls, on buffers that stand anywhere.
+ *
+ *   differential SEED CALLS
+ */
+#include <inttypes.h>
+#include <stdio.h>
+#include <stdlib.h>
+
+#include "differential.h"
+
+int main(int argc, char **argv)
+{
+    if (argc != 3) {
+        fputs("usage: differential SEED CALLS\n", stderr);
+        return 2;
+    }
+    const uint64_t seed = strtoull(argv[1], 0, 0);
+    const uint64_t calls = strtoull(argv[2], 0, 0);
+    const struct outcome outcome = make_random_calls(seed, calls, 0);
+    for (size_t answer = 0; answer < ANSWERS; answer++) {
+        printf("answer %zu: %" PRIu64 "\n", answer, outcome.answers[answer]);
+    }
+    for (size_t kind = 0; kind < TRAP_KINDS; kind++) {
+        printf("trap kind %zu: %" PRIu64 "\n", kind, outcome.trap_kinds[kind]);
+    }
+    printf("seed %" PRIu64 ", calls %" PRIu64 ", hash 0x%" PRIx64 "\n", seed, calls, outcome.hash);
+    if (outcome.changed_beside != 0) {
+        puts("a byte beside a buffer was changed");
+        return 1;
+    }
+    return 0;
+}
