@@ -16,24 +16,22 @@ brought_by() {
     esac
 }
 
-# Says which of these commands is not on the path, if one is not.
+# Says which of these commands are not on the path, if some are not.
 lacks() {
+    absent=
     for command; do
-        if ! command -v "$command" >/dev/null; then
-            echo "there is no $command on the path$(brought_by "$command")"
-            return
-        fi
+        command -v "$command" >/dev/null || absent="$absent${absent:+ and }no $command$(brought_by "$command")"
     done
+    [ -z "$absent" ] || echo "there is $absent on the path"
 }
 
 # Says what is missing to run the archives for 64-bit Arm in user programs, if something is.
 lacks_arm_user() {
     lacking=$(lacks cc aarch64-linux-gnu-gcc qemu-aarch64)
-    if [ -n "$lacking" ]; then
-        echo "$lacking"
-    elif [ ! -f "$(aarch64-linux-gnu-gcc -print-file-name=libc.a)" ]; then
-        echo "aarch64-linux-gnu-gcc has no C library (Debian: libc6-dev-arm64-cross)"
-    fi
+    library=$(aarch64-linux-gnu-gcc -print-file-name=libc.a 2>/dev/null || :)
+    [ -f "$library" ] ||
+        lacking="${lacking:-there is}${lacking:+ and} no C library for 64-bit Arm (Debian: libc6-dev-arm64-cross)"
+    [ -z "$lacking" ] || echo "$lacking"
 }
 
 # The same of the archive at EL2.
