@@ -6,9 +6,6 @@ CLANG=$KIT/$TOOLCHAIN/bin/clang
 TARGET=aarch64-none-elf
 WORK=$PWD/target/board
 
-# No call takes more stack than this.
-MOST_STACK=1024
-
 # The module as it was proved, and as it is compiled for 64-bit Arm.
 MODULE=$WORK/x86_64.ll
 ARM_MODULE=$WORK/aarch64.ll
@@ -81,7 +78,7 @@ disassemble() { # ARCHIVE FILE
         sed -n 's/^ *[0-9a-f]*:[[:space:]]*//p' | sed -e 's/<.*>//' -e 's,//.*,,' >"$2"
 }
 
-check_archive() { # ARCHIVE NEEDED
+check_archive() { # ARCHIVE NEEDED MOST_STACK
     "$WORK/kit/llvm-nm" --extern-only --defined-only "$1" | awk 'NF == 3 { print $3 }' | sort >"$WORK/defined"
     declared | diff - "$WORK/defined" || fail "$1 does not define what include/ritm.h declares"
     needed=$("$WORK/kit/llvm-nm" -u "$1" | awk '$1 == "U" { print $2 }' | sort | tr '\n' ' ')
@@ -91,7 +88,7 @@ check_archive() { # ARCHIVE NEEDED
         fail "$1 uses floating-point or vector registers"
     fi
     stack=$(stack_of "$1")
-    [ "$stack" -le $MOST_STACK ] || fail "a call takes $stack bytes of stack, more than $MOST_STACK"
+    [ "$stack" -le "$3" ] || fail "a call of $1 takes $stack bytes of stack, more than $3"
     size=$("$WORK/kit/llvm-size" "$1" | awk 'NR == 2 && $2 + $3 == 0 { print $1 }')
     [ -n "$size" ] || fail "$1 has data of its own"
     echo "archive: $1: $size bytes in $(grep -c . "$WORK/instructions") instructions, at most $stack bytes of stack," \

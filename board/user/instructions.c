@@ -121,10 +121,10 @@ static void count_map_and_parts(void)
 
 int main(void)
 {
-    COUNT("fresh_cores", ritm_fresh_cores(&cores));
     count_traps();
     count_calls();
     count_policy();
     count_map_and_parts();
+    COUNT("fresh_cores", ritm_fresh_cores(&cores));
     return 0;
 }

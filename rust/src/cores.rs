@@ -160,8 +160,8 @@ impl Cores {
 
     /// Their bytes.
     #[must_use]
-    pub fn to_bytes(&self) -> [u8; ffi::CORES_SIZE] {
-        self.0.to_bytes()
+    pub fn as_bytes(&self) -> &[u8; ffi::CORES_SIZE] {
+        self.0.as_bytes()
     }
 
     /// Puts in a core's registers as the hardware saved them.

@@ -33,37 +33,34 @@ macro_rules! buffers {
 
             #[doc = concat!("The buffer of ", $what, ".")]
             #[derive(Clone, Debug, Eq, PartialEq)]
-            #[repr(C)]
-            pub struct $buffer {
-                /// Little-endian, whatever the byte order of the machine.
-                words: [u64; $size / 8],
-            }
+            #[repr(C, align(8))]
+            pub struct $buffer([u8; $size]);
 
             impl $buffer {
                 /// Zeros.
-                pub const ZERO: Self = Self { words: [0; $size / 8] };
+                pub const ZERO: Self = Self([0; $size]);
 
                 /// The buffer of these bytes.
                 #[must_use]
                 pub fn from_bytes(bytes: [u8; $size]) -> Self {
-                    Self { words: array::from_fn(|k| u64::from_ne_bytes(array::from_fn(|i| bytes[8 * k + i]))) }
+                    Self(bytes)
                 }
 
                 /// Its bytes.
                 #[must_use]
-                pub fn to_bytes(&self) -> [u8; $size] {
-                    array::from_fn(|i| self.words[i / 8].to_ne_bytes()[i % 8])
+                pub fn as_bytes(&self) -> &[u8; $size] {
+                    &self.0
                 }
 
                 /// Word `k`: the bytes from `8 * k` on.
                 #[must_use]
                 pub fn get(&self, k: usize) -> u64 {
-                    u64::from_le(self.words[k])
+                    u64::from_le_bytes(array::from_fn(|i| self.0[8 * k + i]))
                 }
 
                 /// Sets word `k`.
                 pub fn put(&mut self, k: usize, word: u64) {
-                    self.words[k] = word.to_le();
+                    self.0[8 * k..8 * k + 8].copy_from_slice(&word.to_le_bytes());
                 }
 
                 /// The `N` words from word `k` on.
@@ -82,13 +79,15 @@ macro_rules! buffers {
 
             impl From<[u64; $size / 8]> for $buffer {
                 fn from(words: [u64; $size / 8]) -> Self {
-                    Self { words: words.map(u64::to_le) }
+                    let mut buffer = Self::ZERO;
+                    buffer.put_all(0, &words);
+                    buffer
                 }
             }
 
             impl From<$buffer> for [u64; $size / 8] {
                 fn from(buffer: $buffer) -> Self {
-                    buffer.words.map(u64::from_le)
+                    buffer.get_all(0)
                 }
             }
         )*
@@ -99,8 +98,8 @@ macro_rules! buffers {
                 assert_eq!((align_of::<$buffer>(), size_of::<$buffer>()), (8, $bytes));
                 let bytes = array::from_fn(|i| i as u8 ^ 0xa5);
                 let buffer = $buffer::from_bytes(bytes);
-                assert_eq!(buffer.to_bytes(), bytes);
                 assert_eq!(buffer.get(0) as u8, bytes[0]);
+                assert_eq!($buffer::from(<[u64; $size / 8]>::from(buffer)).as_bytes(), &bytes);
             )*
         }
     };

@@ -86,7 +86,7 @@ mod tests {
         assert!(policy.allowed_ranges().map(|range| range.attributes).eq([0x7fd, 0x4c1]));
         assert!(policy.regions().map(|region| region.end_ipa).eq([0x9000, 0xa000]));
         assert_eq!(policy.regions().next().map(|region| region.handler), Some(read_only));
-        assert_eq!(Policy::from_bytes(policy.to_bytes()), policy);
+        assert_eq!(Policy::from_bytes(*policy.as_bytes()), policy);
     }
 
     #[test]

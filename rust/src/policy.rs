@@ -117,8 +117,8 @@ impl Policy {
 
     /// Its bytes.
     #[must_use]
-    pub fn to_bytes(&self) -> [u8; ffi::POLICY_SIZE] {
-        self.0.to_bytes()
+    pub fn as_bytes(&self) -> &[u8; ffi::POLICY_SIZE] {
+        self.0.as_bytes()
     }
 
     /// Allows the guest direct access to a range, with any attribute word.

@@ -47,8 +47,8 @@ impl SuspendMap {
 
     /// Its bytes.
     #[must_use]
-    pub fn to_bytes(&self) -> [u8; ffi::MAP_SIZE] {
-        self.0.to_bytes()
+    pub fn as_bytes(&self) -> &[u8; ffi::MAP_SIZE] {
+        self.0.as_bytes()
     }
 
     /// Removes the first entry with the key, then puts the new one into the first free place.

@@ -84,7 +84,7 @@ impl State for PortPolicy {
     }
 
     fn words(&self) -> Vec<u64> {
-        let policy = Policy::from_bytes(self.policy.to_bytes());
+        let policy = Policy::from_bytes(*self.policy.as_bytes());
         let ranges = policy.allowed_ranges().flat_map(|range| [range.base_ipa, range.size, range.end_ipa]);
         let regions = policy.regions().flat_map(|region| {
             let halves = [region.handler.read as u64, region.handler.write as u64];
@@ -229,7 +229,7 @@ impl State for Search {
 fn found_by_port(state: &PortSearch) -> [u64; 3] {
     match state.found.get_all(0) {
         [1, index, offset] => {
-            let policy = Policy::from_bytes(state.policy.to_bytes());
+            let policy = Policy::from_bytes(*state.policy.as_bytes());
             let region = policy.regions().nth(index as usize).expect("a region is there");
             [1, region.base_ipa, offset]
         }
