@@ -23,29 +23,6 @@ struct buffer {
     size_t size;
 };
 
-enum call {
-    FRESH_POLICY,
-    ALLOW_RANGE,
-    HANDLE_RANGE,
-    FIND,
-    FRESH_CORES,
-    SAVE,
-    TRAP,
-    REPLY,
-    READ_GPR,
-    WRITE_GPR,
-    FRESH_MAP,
-    INSERT,
-    GET,
-    REMOVE,
-    DECODE,
-    EXTEND_READ_RESULT,
-    ALIGN_DOWN,
-    ALIGN_UP,
-    BUFFER_SIZE,
-    CALLS
-};
-
 static struct buffer policy, cores, map, registers, values, trapped, found, entry, access_result, word;
 static struct outcome outcome;
 static uint64_t state;
@@ -201,106 +178,192 @@ uint64_t wide_reply(struct ritm_cores *, uint64_t core, uint64_t kind, const str
 uint64_t wide_decode(uint64_t iss, uint64_t fipa, uint64_t far, struct ritm_access_result *) __asm__("ritm_decode");
 uint64_t wide_extend(uint64_t iss, uint64_t value, struct ritm_word_result *) __asm__("ritm_extend_read_result");
 
-/* C leaves open which argument of a call is worked out first: what is drawn at random is drawn before the call. */
-static uint64_t make(enum call call)
+/* What a call may be given. */
+struct arguments {
+    uint64_t a;
+    uint64_t b;
+    uint64_t core;
+    uint64_t number;
+    uint64_t base;
+    uint64_t size;
+    uint64_t key;
+    uint64_t index;
+    uint64_t esr;
+    uint64_t iss;
+    uint64_t fipa;
+    uint64_t far;
+    uint64_t vbar;
+};
+
+/* C leaves open which argument of a call is worked out first, so they are drawn one after the other before it. */
+static struct arguments draw(void)
 {
-    const uint64_t a = any();
-    const uint64_t b = any();
-    const uint64_t c = core();
-    const uint64_t n = number();
-    const uint64_t start = base();
-    const uint64_t length = size();
-    const uint64_t key = below(12);
-    const uint64_t index = below(34);
-    const uint64_t syndrome = esr();
-    const uint64_t low_iss = iss();
-    const uint64_t page = fipa();
-    const uint64_t address = far();
-    const uint64_t vbar = once_in(8) ? 0 : number();
-    switch (call) {
-    case FRESH_POLICY:
-        return ritm_fresh_policy(AS(ritm_policy, policy));
-    case ALLOW_RANGE:
-        return ritm_allow_range(AS(ritm_policy, policy), start, length, a);
-    case HANDLE_RANGE:
-        return ritm_handle_range(AS(ritm_policy, policy), start, length, a % 33 / 16, b % 33 / 16);
-    case FIND:
-        return ritm_find(AS(ritm_policy, policy), start + a % (2 * PAGE), AS(ritm_find_result, found));
-    case FRESH_CORES:
-        return ritm_fresh_cores(AS(ritm_cores, cores));
-    case SAVE:
-        fill_registers();
-        return ritm_save(AS(ritm_cores, cores), c, AS(ritm_registers, registers));
-    case TRAP:
-        return ritm_trap(AS(ritm_policy, policy), AS(ritm_cores, cores), c, syndrome, page, address, vbar,
-                         AS(ritm_trap_result, trapped));
-    case REPLY:
-        fill(&values);
-        return wide_reply(AS(ritm_cores, cores), c, a % 16 % 6, AS(ritm_values, values), b);
-    case READ_GPR:
-        return ritm_read_gpr(AS(ritm_cores, cores), c, index, AS(ritm_word_result, word));
-    case WRITE_GPR:
-        return ritm_write_gpr(AS(ritm_cores, cores), c, index, n);
-    case FRESH_MAP:
-        return ritm_fresh_map(AS(ritm_suspend_map, map));
-    case INSERT:
-        return ritm_insert(AS(ritm_suspend_map, map), key, a, b);
-    case GET:
-        return ritm_get(AS(ritm_suspend_map, map), key, AS(ritm_entry_result, entry));
-    case REMOVE:
-        return ritm_remove(AS(ritm_suspend_map, map), key, AS(ritm_entry_result, entry));
-    case DECODE:
-        return wide_decode(low_iss, n, a, AS(ritm_access_result, access_result));
-    case EXTEND_READ_RESULT:
-        return wide_extend(low_iss, a, AS(ritm_word_result, word));
-    case ALIGN_DOWN:
-        return ritm_align_down_to_page(n, AS(ritm_word_result, word));
-    case ALIGN_UP:
-        return ritm_align_up_to_page(n, AS(ritm_word_result, word));
-    default:
-        return ritm_buffer_size(key);
+    struct arguments drawn;
+    drawn.a = any();
+    drawn.b = any();
+    drawn.core = core();
+    drawn.number = number();
+    drawn.base = base();
+    drawn.size = size();
+    drawn.key = below(12);
+    drawn.index = below(34);
+    drawn.esr = esr();
+    drawn.iss = iss();
+    drawn.fipa = fipa();
+    drawn.far = far();
+    drawn.vbar = once_in(8) ? 0 : number();
+    return drawn;
+}
+
+static uint64_t fresh_policy(const struct arguments *x)
+{
+    (void)x;
+    return ritm_fresh_policy(AS(ritm_policy, policy));
+}
+
+static uint64_t allow_range(const struct arguments *x)
+{
+    return ritm_allow_range(AS(ritm_policy, policy), x->base, x->size, x->a);
+}
+
+static uint64_t handle_range(const struct arguments *x)
+{
+    return ritm_handle_range(AS(ritm_policy, policy), x->base, x->size, x->a % 33 / 16, x->b % 33 / 16);
+}
+
+static uint64_t find(const struct arguments *x)
+{
+    return ritm_find(AS(ritm_policy, policy), x->base + x->a % (2 * PAGE), AS(ritm_find_result, found));
+}
+
+static uint64_t fresh_cores(const struct arguments *x)
+{
+    (void)x;
+    return ritm_fresh_cores(AS(ritm_cores, cores));
+}
+
+static uint64_t save(const struct arguments *x)
+{
+    fill_registers();
+    return ritm_save(AS(ritm_cores, cores), x->core, AS(ritm_registers, registers));
+}
+
+static uint64_t trap(const struct arguments *x)
+{
+    return ritm_trap(AS(ritm_policy, policy), AS(ritm_cores, cores), x->core, x->esr, x->fipa, x->far, x->vbar,
+                     AS(ritm_trap_result, trapped));
+}
+
+static uint64_t reply(const struct arguments *x)
+{
+    fill(&values);
+    return wide_reply(AS(ritm_cores, cores), x->core, x->a % 16 % 6, AS(ritm_values, values), x->b);
+}
+
+static uint64_t read_gpr(const struct arguments *x)
+{
+    return ritm_read_gpr(AS(ritm_cores, cores), x->core, x->index, AS(ritm_word_result, word));
+}
+
+static uint64_t write_gpr(const struct arguments *x)
+{
+    return ritm_write_gpr(AS(ritm_cores, cores), x->core, x->index, x->number);
+}
+
+static uint64_t fresh_map(const struct arguments *x)
+{
+    (void)x;
+    return ritm_fresh_map(AS(ritm_suspend_map, map));
+}
+
+static uint64_t insert(const struct arguments *x)
+{
+    return ritm_insert(AS(ritm_suspend_map, map), x->key, x->a, x->b);
+}
+
+static uint64_t get(const struct arguments *x)
+{
+    return ritm_get(AS(ritm_suspend_map, map), x->key, AS(ritm_entry_result, entry));
+}
+
+static uint64_t remove_key(const struct arguments *x)
+{
+    return ritm_remove(AS(ritm_suspend_map, map), x->key, AS(ritm_entry_result, entry));
+}
+
+static uint64_t decode(const struct arguments *x)
+{
+    return wide_decode(x->iss, x->number, x->a, AS(ritm_access_result, access_result));
+}
+
+static uint64_t extend(const struct arguments *x)
+{
+    return wide_extend(x->iss, x->a, AS(ritm_word_result, word));
+}
+
+static uint64_t align_down(const struct arguments *x)
+{
+    return ritm_align_down_to_page(x->number, AS(ritm_word_result, word));
+}
+
+static uint64_t align_up(const struct arguments *x)
+{
+    return ritm_align_up_to_page(x->number, AS(ritm_word_result, word));
+}
+
+static uint64_t buffer_size(const struct arguments *x)
+{
+    return ritm_buffer_size(x->key);
+}
+
+/* Each call, how often it comes, and all that it is lent. */
+struct call {
+    uint64_t (*make)(const struct arguments *);
+    uint64_t weight;
+    const struct buffer *lent[3];
+};
+
+static const struct call calls[] = {
+    {fresh_policy, 1, {&policy}},
+    {allow_range, 12, {&policy}},
+    {handle_range, 12, {&policy}},
+    {find, 3, {&policy, &found}},
+    {fresh_cores, 1, {&cores}},
+    {save, 12, {&cores, &registers}},
+    {trap, 20, {&policy, &cores, &trapped}},
+    {reply, 16, {&cores, &values}},
+    {read_gpr, 3, {&cores, &word}},
+    {write_gpr, 3, {&cores}},
+    {fresh_map, 1, {&map}},
+    {insert, 6, {&map}},
+    {get, 3, {&map, &entry}},
+    {remove_key, 3, {&map, &entry}},
+    {decode, 3, {&access_result}},
+    {extend, 3, {&word}},
+    {align_down, 2, {&word}},
+    {align_up, 2, {&word}},
+    {buffer_size, 1, {0}},
+};
+#define CALLS (sizeof calls / sizeof calls[0])
+
+static void take_what_was_lent(const struct call *call)
+{
+    for (size_t i = 0; i < 3 && call->lent[i] != 0; i++) {
+        take_buffer(call->lent[i]);
     }
 }
 
-/* All that the call was lent. */
-static void take_what_was_lent(enum call call)
+static const struct call *choose(void)
 {
-    static struct buffer *const lent[CALLS][3] = {
-        [FRESH_POLICY] = {&policy},
-        [ALLOW_RANGE] = {&policy},
-        [HANDLE_RANGE] = {&policy},
-        [FIND] = {&policy, &found},
-        [FRESH_CORES] = {&cores},
-        [SAVE] = {&cores, &registers},
-        [TRAP] = {&policy, &cores, &trapped},
-        [REPLY] = {&cores, &values},
-        [READ_GPR] = {&cores, &word},
-        [WRITE_GPR] = {&cores},
-        [FRESH_MAP] = {&map},
-        [INSERT] = {&map},
-        [GET] = {&map, &entry},
-        [REMOVE] = {&map, &entry},
-        [DECODE] = {&access_result},
-        [EXTEND_READ_RESULT] = {&word},
-        [ALIGN_DOWN] = {&word},
-        [ALIGN_UP] = {&word},
-    };
-    for (size_t i = 0; i < 3 && lent[call][i] != 0; i++) {
-        take_buffer(lent[call][i]);
+    uint64_t total = 0;
+    for (size_t i = 0; i < CALLS; i++) {
+        total += calls[i].weight;
     }
-}
-
-/* Traps and builder calls come more often than the rest. */
-static enum call choose(void)
-{
-    static const enum call frequent[] = {ALLOW_RANGE, ALLOW_RANGE, HANDLE_RANGE, HANDLE_RANGE, SAVE,  SAVE,  TRAP,
-                                         TRAP,        TRAP,        REPLY,        REPLY,        REPLY, INSERT};
-    if (once_in(2)) {
-        return frequent[below(sizeof frequent / sizeof frequent[0])];
+    const struct call *call = calls;
+    for (uint64_t drawn = below(total); drawn >= call->weight; call++) {
+        drawn -= call->weight;
     }
-    const enum call call = (enum call)below(CALLS);
-    const int makes_fresh = call == FRESH_POLICY || call == FRESH_CORES || call == FRESH_MAP;
-    return makes_fresh && !once_in(16) ? TRAP : call;
+    return call;
 }
 
 /* Every list begins with buffers at new places, once in four with any bytes in them, and else fresh but for the
@@ -318,37 +381,42 @@ static void begin_list(int aligned)
     lend(&access_result, RITM_ACCESS_RESULT_SIZE, aligned);
     lend(&word, RITM_WORD_RESULT_SIZE, aligned);
     if (!once_in(4)) {
-        make(FRESH_POLICY);
-        make(FRESH_CORES);
-        make(FRESH_MAP);
+        ritm_fresh_policy(AS(ritm_policy, policy));
+        ritm_fresh_cores(AS(ritm_cores, cores));
+        ritm_fresh_map(AS(ritm_suspend_map, map));
         ritm_handle_range(AS(ritm_policy, policy), FILTERED_MMIO_BASE, PAGE, 1, 1);
     }
 }
 
-static void count(enum call call, uint64_t answer)
+static void count(const struct call *call, uint64_t answer)
 {
-    if (call != BUFFER_SIZE && answer < ANSWERS) {
+    if (call->make != buffer_size && answer < ANSWERS) {
         outcome.answers[answer]++;
     }
-    if (call == TRAP) {
+    if (call->make == trap) {
         outcome.trap_kinds[ritm_get_word(trapped.start, RITM_TRAP_KIND) % TRAP_KINDS]++;
     }
 }
 
-struct outcome make_random_calls(uint64_t seed, uint64_t calls, int aligned)
+static void make_call(void)
+{
+    const struct call *call = choose();
+    const struct arguments drawn = draw();
+    const uint64_t answer = call->make(&drawn);
+    take(answer);
+    take_what_was_lent(call);
+    count(call, answer);
+}
+
+struct outcome make_random_calls(uint64_t seed, uint64_t number_of_calls, int aligned)
 {
     outcome = (struct outcome){{0}, {0}, 0, 0};
     state = seed;
-    for (uint64_t i = 0; i < calls; i++) {
+    for (uint64_t i = 0; i < number_of_calls; i++) {
         if (i % LIST_LENGTH == 0) {
             begin_list(aligned);
         }
-        const enum call call = choose();
-        const uint64_t answer = make(call);
-        take(call);
-        take(answer);
-        take_what_was_lent(call);
-        count(call, answer);
+        make_call();
     }
     return outcome;
 }

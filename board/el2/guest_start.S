@@ -1,8 +1,7 @@
 /*
  * EL1: where the guest starts, its exception vectors, and the instructions whose traps are looked at.
  */
-#define STACK_SIZE 0x4000
-#define CORES 2
+#include "stack.inc"
 
 /* What the vectors note of an exception: struct seen of guest.c. */
 #define SEEN_COUNT 0
@@ -28,14 +27,7 @@
     .text
     .global _start
 _start:
-    mrs x1, mpidr_el1
-    and x1, x1, #0xff
-    adrp x2, stacks
-    add x2, x2, :lo12:stacks
-    mov x3, #STACK_SIZE
-    madd x2, x1, x3, x2
-    add x2, x2, x3
-    mov sp, x2
+    take_stack
     bl start_guest
     b .
 
@@ -263,8 +255,3 @@ loads_into:
     .irp k, X0_TO_XZR
     .quad load_into_\k
     .endr
-
-    .bss
-    .balign 16
-stacks:
-    .skip CORES * STACK_SIZE

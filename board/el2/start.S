@@ -1,23 +1,17 @@
 /*
  * EL2: where a core starts, and where it comes back to when its guest traps.
  *
- * A trap's frame is what ritm_save takes, struct ritm_registers: x0 to x30, ELR_EL2 and SPSR_EL2, a word each.
+ * A trap's frame is what ritm_save takes, struct ritm_registers: x0 to x30, ELR_EL2 and SPSR_EL2, a word each. QEMU
+ * clears .bss when it loads the program; on a board the loader has to.
  */
+#include "stack.inc"
+
 #define FRAME_SIZE 272 /* 33 words, and 8 bytes that keep SP at a multiple of 16 */
-#define STACK_SIZE 0x4000
-#define CORES 2
 
     .text
     .global _start
 _start:
-    mrs x1, mpidr_el1
-    and x1, x1, #0xff
-    adrp x2, stacks
-    add x2, x2, :lo12:stacks
-    mov x3, #STACK_SIZE
-    madd x2, x1, x3, x2
-    add x2, x2, x3
-    mov sp, x2
+    take_stack
     adrp x2, vectors
     add x2, x2, :lo12:vectors
     msr vbar_el2, x2
@@ -87,8 +81,3 @@ vectors:
     .balign 0x80
     b \target
     .endr
-
-    .bss
-    .balign 16
-stacks:
-    .skip CORES * STACK_SIZE
