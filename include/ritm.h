@@ -9,8 +9,9 @@
  *
  * Alignment. A buffer that is declared by its type is aligned to 8, and no archive asks for more. One that comes from
  * elsewhere must be aligned to 8 too for the archive for 64-bit Arm, whose accesses are of 64 bits at multiples of 8
- * from the buffer's start, or the processor must take accesses at any address (at EL2: the MMU on, SCTLR_EL2.A clear).
- * The strict archive for 64-bit Arm and the one for x86-64 take a buffer anywhere (board/README.md).
+ * from the buffer's start, or the processor must take accesses at any address (at EL2: the buffer in normal memory, the
+ * MMU on, SCTLR_EL2.A clear). The strict archive for 64-bit Arm and the one for x86-64 take a buffer anywhere
+ * (board/README.md).
  *
  * Other code. Of other code the archive calls memset alone; the strict one calls memcpy too.
  *
@@ -18,10 +19,11 @@
  * on the same buffer may only where all of them take it as const: a policy that nothing changes any more may be shared
  * by all cores. A cores buffer needs one lock of the caller's for the whole of it, and not one for each core, since the
  * counter is one for all. A map needs one too.
+ *
  * Some calls touch the words of their own core alone, and not the counter: ritm_save, ritm_reply, ritm_read_gpr,
  * ritm_write_gpr, and ritm_trap with an EC (bits 31:26 of ESR_EL2) other than 0x24, which forwards a call or is
- * refused. On different cores of one buffer these may run without the lock, also beside a call that holds it. A trap
- * with EC 0x24, a data abort, reads the counter; only a load of the counter word writes it.
+ * refused. On different cores of one buffer these may run without the lock, also beside a call on another core that
+ * holds it. A trap with EC 0x24, a data abort, reads the counter; only a load of the counter word writes it.
  *
  * Answers. Every function returns RITM_ACCEPTED or the number of a refusal (enum ritm_refusal); ritm_buffer_size alone
  * returns a size. Where several refusals apply, the first in the order given at the function is returned. A refusal
@@ -168,10 +170,15 @@ enum ritm_wait {
 /* What an accepted trap came to; 0 stands in the result of a refused one. */
 enum ritm_trap_kind {
     RITM_TRAP_REFUSED = 0,
+    /* The register is written, and ELR is past the instruction. */
     RITM_TRAP_LOAD_HANDLED = 1,
+    /* ELR is past the instruction. */
     RITM_TRAP_STORE_HANDLED = 2,
+    /* ELR and SPSR lead to the guest's vector. The host writes ELR_EL1, SPSR_EL1, FAR_EL1 and ESR_EL1 from the core. */
     RITM_TRAP_ABORT_INJECTED = 3,
+    /* The core waits. The host asks the firmware, with x0 to x3, and replies. */
     RITM_TRAP_TO_FIRMWARE = 4,
+    /* The core waits. The host answers itself, by x0 to x17, and replies. */
     RITM_TRAP_TO_PLATFORM = 5
 };
 

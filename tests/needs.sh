@@ -1,4 +1,4 @@
-# Sourced by demo, by the scripts of tests/, of board/ and of oracle/: finds what a script needs before anything is proved
+# Sourced by demo and by the scripts of tests/, board/ and oracle/: finds what a script needs before anything is proved
 # or built. What is missing is told in one line. The functions from find_kit on work in the repository's top folder.
 
 # Says in one line what is missing, and ends the script: STATUS TEXT.

@@ -23,26 +23,32 @@
 #define SMC (UINT64_C(0x17) << 26)
 #define UNEXPECTED (UINT64_C(0x25) << 26)
 #define LOAD UINT64_C(0x93c58007)
+#define LOAD_32 UINT64_C(0x93858007)
 #define STORE (LOAD | 0x40)
 #define NO_SYNDROME UINT64_C(0x92000007)
 
+/* The offset of the counter word in the filtered MMIO page. */
+#define COUNTER 16
+
 static struct ritm_policy policy;
+static struct ritm_trap_result trapped;
 static uint8_t *pages;
 static size_t page_size;
 static struct ritm_cores *cores;
 static uint64_t calls;
 
-static uint64_t trap(uint64_t core, uint64_t esr, uint64_t offset, uint64_t vbar)
+static void expect(const char *what, uint64_t got, uint64_t expected)
 {
-    struct ritm_trap_result trapped;
     calls++;
-    return ritm_trap(&policy, cores, core, esr, FILTERED_MMIO_BASE / PAGE, offset, vbar, &trapped);
+    if (got != expected) {
+        printf("own_core: %s answers %" PRIu64 " instead of %" PRIu64 "\n", what, got, expected);
+        exit(1);
+    }
 }
 
-static void set(uint64_t core, uint64_t index, uint64_t value)
+static uint64_t trap(uint64_t core, uint64_t esr, uint64_t offset, uint64_t vbar)
 {
-    calls++;
-    ritm_write_gpr(cores, core, index, value);
+    return ritm_trap(&policy, cores, core, esr, FILTERED_MMIO_BASE / PAGE, offset, vbar, &trapped);
 }
 
 /* The calls that need no lock. */
@@ -51,38 +57,47 @@ static void calls_of_one_core(uint64_t core)
     static const struct ritm_registers registers = {{0}};
     static const struct ritm_values values = {{0}};
     struct ritm_word_result word;
-    calls += 5;
-    ritm_save(cores, core, &registers);
-    trap(core, HVC, 0, VBAR);
-    trap(core, HVC, 0, VBAR); /* refused: the core waits */
-    ritm_save(cores, core, &registers);
-    ritm_reply(cores, core, RITM_REPLY_SUCCESS_LARGE, &values, 0);
-    set(core, 0, UINT64_C(0x84000000));
-    trap(core, SMC, 0, VBAR);
-    ritm_reply(cores, core, RITM_REPLY_ERROR, &values, -1);
-    trap(core, UNEXPECTED, 0, VBAR);
-    ritm_read_gpr(cores, core, 30, &word);
-    trap(RITM_MAX_CORES, LOAD, 0, VBAR);
+    expect("save", ritm_save(cores, core, &registers), RITM_ACCEPTED);
+    expect("an HVC", trap(core, HVC, 0, VBAR), RITM_ACCEPTED);
+    expect("a trap of a waiting core", trap(core, HVC, 0, VBAR), RITM_CORE_WAITING);
+    expect("a save of a waiting core", ritm_save(cores, core, &registers), RITM_CORE_WAITING);
+    expect("reply", ritm_reply(cores, core, RITM_REPLY_SUCCESS_LARGE, &values, 0), RITM_ACCEPTED);
+    expect("write", ritm_write_gpr(cores, core, 0, UINT64_C(0x84000000)), RITM_ACCEPTED);
+    expect("an SMC", trap(core, SMC, 0, VBAR), RITM_ACCEPTED);
+    expect("reply", ritm_reply(cores, core, RITM_REPLY_ERROR, &values, -1), RITM_ACCEPTED);
+    expect("another class", trap(core, UNEXPECTED, 0, VBAR), RITM_UNEXPECTED_EXCEPTION_CLASS);
+    expect("read", ritm_read_gpr(cores, core, 30, &word), RITM_ACCEPTED);
+    expect("a ninth core", trap(RITM_MAX_CORES, LOAD, 0, VBAR), RITM_NO_SUCH_CORE);
 }
 
-/* Data aborts of every kind but a load of the counter word, which stands at offset 16. */
+static void expect_abort(uint64_t core, uint64_t esr, uint64_t offset, uint64_t kind)
+{
+    expect("a data abort", trap(core, esr, offset, VBAR), RITM_ACCEPTED);
+    expect("a data abort's kind", ritm_get_word(&trapped, RITM_TRAP_KIND), kind);
+}
+
+/* Data aborts of every kind but a load of the counter word. */
 static void aborts_that_do_not_count(uint64_t core)
 {
-    for (uint64_t offset = 0; offset < 64; offset += 8) {
-        if (offset != 16) {
-            trap(core, LOAD, offset, VBAR);
-        }
-        set(core, 5, UINT64_C(0x123456789abcdef0));
-        trap(core, STORE, offset, VBAR);
-    }
-    trap(core, NO_SYNDROME, 16, VBAR);
-    trap(core, LOAD & ~(UINT64_C(1) << 22), 16, VBAR);
-    trap(core, LOAD, 48, 0);
+    expect_abort(core, LOAD, 0, RITM_TRAP_LOAD_HANDLED);
+    expect_abort(core, LOAD, 40, RITM_TRAP_LOAD_HANDLED);
+    expect_abort(core, LOAD, 8, RITM_TRAP_ABORT_INJECTED);
+    expect_abort(core, LOAD_32, COUNTER, RITM_TRAP_ABORT_INJECTED);
+    expect_abort(core, NO_SYNDROME, COUNTER, RITM_TRAP_ABORT_INJECTED);
+    expect_abort(core, STORE, COUNTER, RITM_TRAP_ABORT_INJECTED);
+    expect("write", ritm_write_gpr(cores, core, 5, UINT64_C(0x123456789abcdef0)), RITM_ACCEPTED);
+    expect_abort(core, STORE, 8, RITM_TRAP_STORE_HANDLED);
+    expect("an abort without a vector", trap(core, LOAD, 48, 0), RITM_NO_GUEST_VECTOR);
+}
+
+static void load_a_word(uint64_t core)
+{
+    trap(core, LOAD, 0, VBAR);
 }
 
 static void load_the_counter(uint64_t core)
 {
-    trap(core, LOAD, 16, VBAR);
+    trap(core, LOAD, COUNTER, VBAR);
 }
 
 /* Puts fresh cores where word k stands first in the second page, and closes the words before or behind it. */
@@ -120,14 +135,15 @@ static void stop(int signal_number)
     _exit(STOPPED);
 }
 
-/* Whether a process is stopped that makes calls while the words behind their core cannot be written. */
-static int is_stopped(void (*make)(uint64_t), uint64_t core)
+/* Whether a process is stopped that makes a call while the words behind its core are closed, to stores or altogether.
+ */
+static int is_stopped(void (*make)(uint64_t), uint64_t core, int protection)
 {
     int status = 0;
     const pid_t child = fork();
     if (child == 0) {
         signal(SIGSEGV, stop);
-        place((core + 1) * RITM_CORE_WORDS, 1, PROT_READ);
+        place((core + 1) * RITM_CORE_WORDS, 1, protection);
         make(core);
         _exit(0);
     }
@@ -148,11 +164,9 @@ int main(void)
         beside_closed_words(calls_of_one_core, core, PROT_NONE);
         beside_closed_words(aborts_that_do_not_count, core, PROT_READ);
     }
-    if (!is_stopped(load_the_counter, 3)) {
-        puts("own_core: a load of the counter word does not write it, or closed words can be written");
-        return 1;
-    }
-    printf("own core: %" PRIu64 " calls touch the words of their own core alone, and one that counts is stopped\n",
-           calls);
+    expect("a load, which reads the counter, where it is closed", is_stopped(load_a_word, 3, PROT_NONE), 1);
+    expect("a load of the counter, which writes it", is_stopped(load_the_counter, 3, PROT_READ), 1);
+    expect("a load of another word, which does not", is_stopped(load_a_word, 3, PROT_READ), 0);
+    printf("own core: %" PRIu64 " answers, with all other words of the buffer closed\n", calls);
     return 0;
 }

@@ -1,6 +1,7 @@
 /*
- * Calls with one buffer in place of another, none of which compiles. tests/run compiles the file for each number of
- * SWAPPED, in C and in C++; with 0 every buffer stands in its place.
+ * Calls with one buffer in place of another, none of which compiles: in C++, and in C where a pointer to another type
+ * is an error (-Werror=incompatible-pointer-types; from GCC 14 on by default, before that a warning). tests/run
+ * compiles the file for each number of SWAPPED; with 0 every buffer stands in its place.
  */
 #include "ritm.h"
 

@@ -1,6 +1,6 @@
 /*
- * Pseudo-random calls of every function at EL2, with alignment checks on: an access that is not aligned ends the run.
- * RANDOM_SEED, RANDOM_CALLS and ALIGNED are given on the compiler's command line.
+ * Pseudo-random calls of every function at EL2, where start.S has alignment checks on: an access that is not aligned
+ * ends the run. RANDOM_SEED, RANDOM_CALLS and ALIGNED are given on the compiler's command line.
  */
 #include "board.h"
 #include "console.h"
@@ -33,8 +33,6 @@ void handle_sync_lower(void)
 void start_core(void)
 {
     struct line line = {.length = 0};
-    WRITE_REGISTER(sctlr_el2, 0x30c50830 | 1 << 1); /* A; the MMU is off */
-    __asm__ volatile("isb" : : : "memory");
     const struct outcome outcome = make_random_calls(RANDOM_SEED, RANDOM_CALLS, ALIGNED);
     add_decimal(&line, "seed ", RANDOM_SEED);
     add_decimal(&line, ", calls ", RANDOM_CALLS);

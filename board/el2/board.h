@@ -16,7 +16,7 @@
 /* The filtered MMIO page of src/platform/qemu.rs. */
 #define FILTERED_MMIO_BASE UINT64_C(0x0f000000)
 
-/* A page that the host serves itself: loads give these bytes, repeated. */
+/* A page that the host serves itself: loads give these eight bytes, repeated. */
 #define OWN_PAGE_BASE UINT64_C(0x100000000)
 #define OWN_PAGE_WORD UINT64_C(0x8091a2b3047566f7)
 
@@ -28,6 +28,8 @@
 #define PSCI_SYSTEM_OFF UINT64_C(0x84000008)
 #define PSCI_FEATURES UINT64_C(0x8400000a)
 #define PSCI_CPU_ON UINT64_C(0xc4000003)
+#define PSCI_NOT_SUPPORTED UINT64_MAX
+#define PSCI_INVALID_PARAMETERS (-UINT64_C(2))
 
 /* A call that RITM's QEMU platform answers for tests, and its answer. */
 #define TEST_CALL UINT64_C(0xff000000)
@@ -39,6 +41,8 @@
 
 /* ESR_EL1 and ESR_EL2, and the ISS of a data abort (Arm DDI 0601). */
 #define ESR_EC(ec) (UINT64_C(ec) << 26)
+#define EC_OF(esr) ((esr) >> 26 & 0x3f)
+#define EC_DATA_ABORT_LOWER_EL UINT64_C(0x24)
 #define ESR_IL (UINT64_C(1) << 25)
 #define ESR_ISS UINT64_C(0x1ffffff)
 #define ISS_ISV (UINT64_C(1) << 24)

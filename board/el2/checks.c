@@ -39,11 +39,12 @@ void take_verdict(uint64_t failures)
     guest_ended = 1;
 }
 
-/* The syndrome that the processor reports, and what the library makes of it. */
+/* The syndrome that the processor reports, and what the library makes of it. EL2 reads the instruction at the guest's
+   own address, which this guest never maps elsewhere. */
 void compare_with_instruction(const struct trap *trap, const struct ritm_registers *frame)
 {
     const uint64_t aarch32 = frame->words[RITM_REGISTERS_SPSR] & 0x10;
-    if (trap->esr >> 26 != 0x24 || aarch32 || trap->esr & ISS_S1PTW) {
+    if (EC_OF(trap->esr) != EC_DATA_ABORT_LOWER_EL || aarch32 || trap->esr & ISS_S1PTW) {
         return;
     }
     struct ritm_access_result access;

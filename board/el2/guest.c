@@ -24,9 +24,6 @@
 #define STORE_VALUE UINT64_C(0x123456789abcdef0)
 #define COUNTER_ADDRESS (FILTERED_MMIO_BASE + 16)
 
-/* PSCI's error for a core that is not there. */
-#define INVALID_PARAMETERS (-UINT64_C(2))
-
 /* An access, which gives what its register holds afterwards; and a way to make one from another mode. */
 typedef uint64_t probe(uint64_t address, uint64_t value);
 typedef uint64_t way(uint64_t address, uint64_t value, probe *);
@@ -239,7 +236,7 @@ static void make_calls(void)
     for (size_t i = 0; i < LENGTH(calls); i++) {
         expect_call(calls[i], PSCI_VERSION, 0, 0x10001, 1);
         expect_call(calls[i], PSCI_FEATURES, PSCI_CPU_ON, 0, 1);
-        expect_call(calls[i], PSCI_CPU_ON, 7, INVALID_PARAMETERS, 1);
+        expect_call(calls[i], PSCI_CPU_ON, 7, PSCI_INVALID_PARAMETERS, 1);
         expect_call(calls[i], TEST_CALL, 0, TEST_CALL_ANSWER, 1);
         expect_call(calls[i], UINT64_C(0xc5000000), 0, UINT64_MAX, 0);
         expect_call(calls[i], PSCI_VERSION | UINT64_C(1) << 32, 0, UINT64_MAX, 0);
@@ -268,7 +265,7 @@ static void print_abort(const char *origin, const char *whose)
     add(&line, origin);
     add(&line, whose);
     add_hex(&line, " abort at vector ", seen.vector);
-    add_hex(&line, ", EC ", seen.esr >> 26);
+    add_hex(&line, ", EC ", EC_OF(seen.esr));
     add_hex(&line, ", ISS ", seen.esr & ESR_ISS);
     add_hex(&line, ", SPSR_EL1 ", seen.spsr);
     add_hex(&line, ", PSTATE ", seen.pstate);
@@ -281,12 +278,12 @@ static void abort_from(const char *origin, way *by, uint64_t vector, uint64_t ec
     by(GUEST_ADDRESS + 1, 0, load_u32);
     print_abort(origin, ": the core's own");
     expect("the core's own vector", seen.vector, vector);
-    expect("the core's own EC", seen.esr >> 26, ec);
+    expect("the core's own EC", EC_OF(seen.esr), ec);
     const uint64_t spsr = seen.spsr;
     by(FILTERED_MMIO_BASE, 0, load_u32);
     print_abort(origin, ": the injected");
     expect("the injected vector", seen.vector, 0x200);
-    expect("the injected EC", seen.esr >> 26, 0x25);
+    expect("the injected EC", EC_OF(seen.esr), 0x25);
     expect("SPSR_EL1", seen.spsr, spsr);
     expect("its mode", seen.spsr & 0x1f, mode);
 }
@@ -309,6 +306,9 @@ static void abort_by_origin(void)
 enum stage { STARTED, FIRST_TRAPS, LOADS, CALLS, STAGES };
 static volatile enum stage asked;
 static volatile enum stage done;
+
+/* What the second core found in x0. */
+static uint64_t second_context_id;
 
 /* Traps that the cores make at once, and how many of them gave other than they should. */
 #define TRAPS_AT_ONCE 1000
@@ -352,6 +352,7 @@ static void do_stage(enum stage stage)
 {
     switch (stage) {
     case FIRST_TRAPS:
+        expect("x0 of the second core", second_context_id, CONTEXT_ID);
         expect_served(load_64, COUNTER_ADDRESS, 0, counter++);
         expect_abort(load_64, NOWHERE, 1, DFSC_TRANSLATION(1));
         expect_call(call_hvc, TEST_CALL, 0, TEST_CALL_ANSWER, 1);
@@ -369,7 +370,7 @@ static void do_stage(enum stage stage)
 
 static _Noreturn void run_second_core(uint64_t context_id)
 {
-    expect("x0 of the second core", context_id, CONTEXT_ID);
+    second_context_id = context_id;
     for (enum stage stage = FIRST_TRAPS; stage < STAGES; stage++) {
         while (asked != stage) {
         }

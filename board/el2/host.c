@@ -4,7 +4,8 @@
  * a line.
  *
  * The library is proved. This host, its stage-2 tables and start.S are not: they are tested by the guest below them.
- * Calls of expect are the test's; a host of its own handles what they rule out.
+ * What checks.c has is the test's, and so are three of the guest's calls: another host has none of it, and handles what
+ * calls of expect rule out.
  */
 #include "host.h"
 
@@ -22,9 +23,6 @@
 
 /* The mode EL1h, with all exceptions masked. */
 #define SPSR_EL1H UINT64_C(0x3c5)
-
-/* PSCI's error for a function that there is not. */
-#define NOT_SUPPORTED UINT64_MAX
 
 /* The library's state. By their types the buffers are aligned as the archive asks. */
 static struct ritm_policy policy;
@@ -78,7 +76,11 @@ static uint64_t call_firmware(uint64_t function, uint64_t a, uint64_t b, uint64_
     register uint64_t x1 __asm__("x1") = a;
     register uint64_t x2 __asm__("x2") = b;
     register uint64_t x3 __asm__("x3") = c;
-    __asm__ volatile("smc #0" : "+r"(x0), "+r"(x1), "+r"(x2), "+r"(x3) : : "memory");
+    __asm__ volatile("smc #0"
+                     : "+r"(x0), "+r"(x1), "+r"(x2), "+r"(x3)
+                     :
+                     : "x4", "x5", "x6", "x7", "x8", "x9", "x10", "x11", "x12", "x13", "x14", "x15", "x16", "x17",
+                       "memory");
     return x0;
 }
 
@@ -155,38 +157,25 @@ static void set_up_state(void)
  * A core's start (system registers: Arm DDI 0601).
  */
 
-/* The MMU of EL2: 1 GiB of devices, then 1 GiB of memory. Every access must be aligned: the archive asks for no more.
- */
-static void enable_el2_mmu(void)
-{
-    static const _Alignas(4096) uint64_t table[512] = {
-        UINT64_C(0x40000000000441), /* a block, device memory, never executed */
-        UINT64_C(0x40000745),       /* a block, write-back, inner shareable */
-    };
-    WRITE_REGISTER(mair_el2, 0xff00);
-    WRITE_REGISTER(tcr_el2, 0x80823519); /* 39 bits of address, 4 KiB granule, write-back, 40 bits of output */
-    WRITE_REGISTER(ttbr0_el2, (uint64_t)table);
-    __asm__ volatile("dsb sy\n\ttlbi alle2\n\tdsb sy\n\tisb" : : : "memory");
-    WRITE_REGISTER(sctlr_el2, 0x30c50830 | 1 << 12 | 1 << 2 | 1 << 1 | 1); /* I, C, A, M */
-    __asm__ volatile("isb" : : : "memory");
-}
-
-/* As RITM's setup_stage2 and entry_point_el1: HCR_EL2 has VM, TSC and RW. Floating point traps, of EL2 too. */
+/* What a guest finds: it sees the processor's own numbers, its MMU is off, its SMC and stage-2 faults trap. Floating
+   point traps too, at EL2 as below it, to show that the archive has none; a host whose guest uses it writes 0x33ff.
+   What RITM sets for a guest's timers and interrupts (CNTHCTL_EL2, CNTVOFF_EL2, ICC_SRE_EL2) is left out. */
 static void configure_el2(void)
 {
+    WRITE_REGISTER(vpidr_el2, READ_REGISTER(midr_el1));
+    WRITE_REGISTER(vmpidr_el2, READ_REGISTER(mpidr_el1));
     WRITE_REGISTER(vttbr_el2, stage2_root());
     WRITE_REGISTER(vtcr_el2, 0x80043598); /* 40 bits of address from level 0, 4 KiB granule, 44 bits of output */
-    WRITE_REGISTER(hcr_el2, UINT64_C(1) << 31 | 1 << 19 | 1);
+    WRITE_REGISTER(hcr_el2, UINT64_C(1) << 31 | 1 << 19 | 1); /* RW, TSC, VM */
     WRITE_REGISTER(cptr_el2, 0x37ff);
     WRITE_REGISTER(sctlr_el1, 0x30d00800);
     WRITE_REGISTER(vbar_el1, 0);
-    __asm__ volatile("dsb sy\n\ttlbi vmalls12e1\n\tdsb sy\n\tisb" : : : "memory");
+    __asm__ volatile("dsb sy\n\tisb\n\ttlbi vmalls12e1\n\tdsb sy\n\tisb" : : : "memory");
 }
 
 /* Every core begins here, and then enters the guest with the registers of the frame. */
 void start_core(struct ritm_registers *frame, uint64_t core)
 {
-    enable_el2_mmu();
     if (core == 0) {
         set_up_state();
     }
@@ -229,20 +218,21 @@ static void answer_platform(uint64_t core, const uint64_t *x, struct line *line)
     }
 }
 
-/* A core that the guest starts comes through this host first. */
+/* A core that the guest starts comes through this host first, which has stacks for CORES. */
 static uint64_t cpu_on(uint64_t target, uint64_t entry_point, uint64_t context_id)
 {
-    if (target < CORES) {
-        entries[target].entry_point = entry_point;
-        entries[target].context_id = context_id;
+    if (target >= CORES) {
+        return PSCI_INVALID_PARAMETERS;
     }
+    entries[target].entry_point = entry_point;
+    entries[target].context_id = context_id;
     return call_firmware(PSCI_CPU_ON, target, (uint64_t)_start, 0);
 }
 
-/* The calls of which QEMU's firmware knows something go on to it, as RITM forwards them. */
+/* Those of PSCI's calls that this guest makes. Two go on to QEMU's firmware as they are. */
 static void answer_firmware(uint64_t core, const uint64_t *x, struct line *line)
 {
-    uint64_t result = NOT_SUPPORTED;
+    uint64_t result = PSCI_NOT_SUPPORTED;
     switch (x[0]) {
     case PSCI_SYSTEM_OFF:
         print_line(line);
@@ -262,6 +252,11 @@ static void answer_firmware(uint64_t core, const uint64_t *x, struct line *line)
  * Traps.
  */
 
+static uint64_t rotate_right(uint64_t word, uint64_t bits)
+{
+    return bits == 0 ? word : word >> bits | word << (64 - bits);
+}
+
 /* A page of the host's own, made of the library's parts. The filtered MMIO page serves 64-bit loads alone; here every
    load is served, and shows how its value comes into its register. */
 static int serve_own_page(const struct trap *trap, struct line *line)
@@ -269,14 +264,16 @@ static int serve_own_page(const struct trap *trap, struct line *line)
     struct ritm_access_result access;
     struct ritm_word_result value;
     const uint32_t iss = trap->esr & ESR_ISS;
-    if (trap->esr >> 26 != 0x24 || ritm_decode(iss, trap->fipa, trap->far, &access) != RITM_ACCEPTED) {
+    if (EC_OF(trap->esr) != EC_DATA_ABORT_LOWER_EL ||
+        ritm_decode(iss, trap->fipa, trap->far, &access) != RITM_ACCEPTED) {
         return 0;
     }
     const uint64_t offset = access.words[RITM_ACCESS_IPA] - OWN_PAGE_BASE;
     if (offset >= PAGE_SIZE || access.words[RITM_ACCESS_WNR] == 1) {
         return 0;
     }
-    expect("extend", ritm_extend_read_result(iss, OWN_PAGE_WORD >> 8 * (offset % 8), &value), RITM_ACCEPTED);
+    expect("extend", ritm_extend_read_result(iss, rotate_right(OWN_PAGE_WORD, 8 * (offset % 8)), &value),
+           RITM_ACCEPTED);
     expect("write", ritm_write_gpr(&cores, trap->core, access.words[RITM_ACCESS_RT], value.words[0]), RITM_ACCEPTED);
     words_of(trap->core)[RITM_CORE_ELR] += 4;
     add(line, ": load served by the host");
@@ -363,7 +360,7 @@ static void add_trap(const struct trap *trap, struct line *line)
 {
     add_decimal(line, "EL2: core ", trap->core);
     add_hex(line, ": ESR ", trap->esr);
-    if (trap->esr >> 26 == 0x24) {
+    if (EC_OF(trap->esr) == EC_DATA_ABORT_LOWER_EL) {
         add_hex(line, ", FIPA ", trap->fipa);
         add_hex(line, ", FAR ", trap->far);
     }

@@ -44,6 +44,7 @@ uint64_t map_allowed_ranges(const struct ritm_policy *policy)
 {
     for (uint64_t k = 0; k < policy->words[RITM_POLICY_ALLOWED_COUNT]; k++) {
         const uint64_t *range = &policy->words[RITM_POLICY_ALLOWED + k * RITM_ALLOWED_WORDS];
+        expect("a range within 40 bits of address", range[RITM_ALLOWED_END] <= UINT64_C(1) << 40, 1);
         map(tables[0], 0, range[RITM_ALLOWED_BASE], range[RITM_ALLOWED_END], range[RITM_ALLOWED_ATTRIBUTES]);
     }
     return 1 + tables_added;

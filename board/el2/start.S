@@ -1,16 +1,39 @@
 /*
  * EL2: where a core starts, and where it comes back to when its guest traps.
  *
- * A trap's frame is what ritm_save takes, struct ritm_registers: x0 to x30, ELR_EL2 and SPSR_EL2, a word each. QEMU
- * clears .bss when it loads the program; on a board the loader has to.
+ * A trap's frame is what ritm_save takes, struct ritm_registers: x0 to x30, ELR_EL2 and SPSR_EL2, a word each.
+ *
+ * The program is loaded with its .bss cleared and nothing of it in a cache, as QEMU does; on a board the loader has to.
  */
 #include "stack.inc"
 
 #define FRAME_SIZE 272 /* 33 words, and 8 bytes that keep SP at a multiple of 16 */
 
+/* System registers of EL2 (Arm DDI 0601). */
+#define HCR_EL2 0x80000000   /* RW; E2H is clear, so that the next two mean what they say */
+#define MAIR_EL2 0xff00      /* attribute 0 is device memory, 1 is write-back */
+#define TCR_EL2 0x80823519   /* 39 bits of address, 4 KiB granule, write-back, 40 bits of output */
+#define SCTLR_EL2 0x30c51837 /* I, C, A, M: caches, every access aligned, the MMU */
+
     .text
     .global _start
 _start:
+    /* The MMU comes first: what is stored without it may be read stale with it. */
+    ldr x2, =HCR_EL2
+    msr hcr_el2, x2
+    ldr x2, =MAIR_EL2
+    msr mair_el2, x2
+    ldr x2, =TCR_EL2
+    msr tcr_el2, x2
+    adrp x2, el2_table
+    msr ttbr0_el2, x2
+    isb
+    tlbi alle2
+    dsb sy
+    isb
+    ldr x2, =SCTLR_EL2
+    msr sctlr_el2, x2
+    isb
     take_stack
     adrp x2, vectors
     add x2, x2, :lo12:vectors
@@ -81,3 +104,11 @@ vectors:
     .balign 0x80
     b \target
     .endr
+
+/* EL2's own addresses: 1 GiB of devices, never executed, then 1 GiB of memory, inner shareable. */
+    .section .rodata
+    .balign 0x1000
+el2_table:
+    .quad 0x40000000000441
+    .quad 0x40000745
+    .skip 510 * 8
