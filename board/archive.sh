@@ -41,7 +41,7 @@ KNOWN_WORDS='
 
 # The words of a module: what is no comment, name, label, number or note, and no line that names the target.
 words_of() { # MODULE
-    sed -e '/^target /d' -e 's/;.*//' -e 's/@"[^"]*"//g' -e 's/![^, ]*"[^"]*"//g' -e 's/[%@!#][-A-Za-z0-9._$]*//g' \
+    sed -e '/^target /d' -e 's/@"[^"]*"//g' -e 's/![^, ]*"[^"]*"//g' -e 's/;.*//' -e 's/[%@!#][-A-Za-z0-9._$]*//g' \
         -e 's/^[a-z]*\.*[0-9]*://' "$1" | grep -oE '"[^"]*"|[A-Za-z_<][A-Za-z0-9_.]*' | sort -u
 }
 

@@ -135,8 +135,7 @@ static void stop(int signal_number)
     _exit(STOPPED);
 }
 
-/* Whether a process is stopped that makes a call while the words behind its core are closed, to stores or altogether.
- */
+/* Whether a process is stopped that makes a call while the words behind its core are closed, or closed to stores. */
 static int is_stopped(void (*make)(uint64_t), uint64_t core, int protection)
 {
     int status = 0;

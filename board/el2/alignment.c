@@ -6,21 +6,9 @@
 #include "console.h"
 #include "differential.h"
 
-static _Noreturn void turn_off(void)
-{
-    register uint64_t x0 __asm__("x0") = PSCI_SYSTEM_OFF;
-    __asm__ volatile("smc #0" : "+r"(x0) : : "memory");
-    for (;;) {
-    }
-}
-
 void handle_unexpected(void)
 {
-    struct line line = {.length = 0};
-    add_hex(&line, "EL2: an exception: ESR_EL2 ", READ_REGISTER(esr_el2));
-    add_hex(&line, ", ELR_EL2 ", READ_REGISTER(elr_el2));
-    add_hex(&line, ", FAR_EL2 ", READ_REGISTER(far_el2));
-    print_line(&line);
+    print_el2_exception();
     turn_off();
 }
 

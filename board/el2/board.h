@@ -64,6 +64,15 @@
     })
 #define WRITE_REGISTER(name, value) __asm__ volatile("msr " #name ", %0" : : "r"((uint64_t)(value)) : "memory")
 
+/* The firmware turns the board off. */
+static inline _Noreturn void turn_off(void)
+{
+    register uint64_t x0 __asm__("x0") = PSCI_SYSTEM_OFF;
+    __asm__ volatile("smc #0" : "+r"(x0) : : "memory");
+    for (;;) {
+    }
+}
+
 /* memory.c: what the library and a compiler need of a C library. */
 void *memset(void *bytes, int value, size_t size);
 void *memcpy(void *restrict bytes, const void *restrict source, size_t size);

@@ -1,4 +1,5 @@
 #include "console.h"
+#include "board.h"
 
 /* The PL011 of QEMU's virt board: a byte that is stored here is sent. */
 #define UART_DATA ((volatile uint32_t *)UINT64_C(0x09000000))
@@ -47,6 +48,15 @@ void print(const char *text)
 {
     struct line line = {.length = 0};
     add(&line, text);
+    print_line(&line);
+}
+
+void print_el2_exception(void)
+{
+    struct line line = {.length = 0};
+    add_hex(&line, "EL2: an exception that no guest made: ESR_EL2 ", READ_REGISTER(esr_el2));
+    add_hex(&line, ", ELR_EL2 ", READ_REGISTER(elr_el2));
+    add_hex(&line, ", FAR_EL2 ", READ_REGISTER(far_el2));
     print_line(&line);
 }
 

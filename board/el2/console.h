@@ -21,6 +21,9 @@ void print_line(const struct line *line);
 /* Prints a line of one text. */
 void print(const char *text);
 
+/* At EL2: prints what the processor says of an exception of its own. */
+void print_el2_exception(void);
+
 /* Prints that something was not as it should be: WHOSE: WHAT: GOT instead of EXPECTED. */
 void print_difference(const char *whose, const char *what, uint64_t got, uint64_t expected);
 

@@ -28,6 +28,9 @@
     .global _start
 _start:
     take_stack
+    /* SP_EL0 has a stack too: an abort that comes with it is noted like any other. */
+    sub x2, sp, #STACK_SIZE / 2
+    msr sp_el0, x2
     bl start_guest
     b .
 
@@ -139,14 +142,19 @@ at_el1t:
     msr spsel, #1
     br x9
 
-    .global at_el0
-at_el0:
+/* Goes on at EL0, at this place and in this state; SVC leads to back_from_el0, and so to the caller. */
+    .macro enter_el0 place, spsr
     mov x9, x30
-    adr x3, call_probe
+    adr x3, \place
     msr elr_el1, x3
-    mov x3, #SPSR_EL0T
+    mov x3, #\spsr
     msr spsr_el1, x3
     eret
+    .endm
+
+    .global at_el0
+at_el0:
+    enter_el0 call_probe, SPSR_EL0T
 call_probe:
     blr x2
     svc #0
@@ -157,12 +165,7 @@ back_from_el0:
    mov r6, r0; mov r5, r1; cmp r0, r0; ldr r5, [r6]; mov r0, r5; svc #0. */
     .global at_el0_aarch32
 at_el0_aarch32:
-    mov x9, x30
-    adr x3, aarch32_probe
-    msr elr_el1, x3
-    mov x3, #SPSR_EL0_AARCH32
-    msr spsr_el1, x3
-    eret
+    enter_el0 aarch32_probe, SPSR_EL0_AARCH32
 aarch32_probe:
     .word 0xe1a06000, 0xe1a05001, 0xe1500000, 0xe5965000, 0xe1a00005, 0xef000000
 

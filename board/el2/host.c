@@ -87,19 +87,13 @@ static uint64_t call_firmware(uint64_t function, uint64_t a, uint64_t b, uint64_
 static _Noreturn void finish(void)
 {
     print_verdict();
-    call_firmware(PSCI_SYSTEM_OFF, 0, 0, 0);
-    for (;;) {
-    }
+    turn_off();
 }
 
 /* An exception that is no guest's: an error of this host. */
 void handle_unexpected(void)
 {
-    struct line line = {.length = 0};
-    add_hex(&line, "EL2: an exception that no guest made: ESR_EL2 ", READ_REGISTER(esr_el2));
-    add_hex(&line, ", ELR_EL2 ", READ_REGISTER(elr_el2));
-    add_hex(&line, ", FAR_EL2 ", READ_REGISTER(far_el2));
-    print_line(&line);
+    print_el2_exception();
     expect("exceptions that no guest made", 1, 0);
     finish();
 }
