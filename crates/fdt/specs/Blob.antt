@@ -1,0 +1,96 @@
+-- The blob: header, reservation list, blocks, and what the answer is. Assumes nothing.
+use Prim.Native.Nat.{ℕ, zero, suc, _+_, _-_, _/_, _%_}
+use mathlib.Core.Bool.{Bool, true, false, cond}
+use mathlib.Core.List.{List, []}
+use lib.Dec.{ltb, eqb}
+use lib.ListN.{length, take, drop}
+use Rattle.fdt_tokens.specs.Devicetree.{Pair, Answer, invalid, unsupported, pairs}
+use Rattle.fdt_tokens.specs.Bytes.{wordAt}
+use Rattle.fdt_nodes.specs.declared.Verdict.{Verdict}
+use Rattle.fdt_nodes.specs.declared.Verdict.the-variants as verdict
+use Rattle.fdt_nodes.specs.Scan.{started}
+use Rattle.fdt.specs.Passes.{judgedBlock, leftIn}
+use Rattle.fdt.specs.declared.Walk.{Walk}
+use Rattle.fdt.specs.declared.Blocks.{Blocks}
+use Rattle.fdt.specs.declared.Cursor.{Cursor}
+use Rattle.fdt.specs.declared.Memory.{Memory}
+use Rattle.fdt.specs.declared.Memory.the-variants.{Invalid, UnsupportedCellCounts, Pairs}
+
+abbrev pub firstWalk : Walk
+firstWalk = record { at = 0; scan = started; place = 0; left = 0 }
+
+abbrev pub blocksAt : ℕ → ℕ → ℕ → ℕ → Blocks
+blocksAt a b c d = record { block = record { from = a; to = b }; strings = record { from = c; to = d } }
+
+abbrev pub cursorAt : Blocks → Cursor
+cursorAt b = record { blocks = b; walk = firstWalk }
+
+unfoldable pub zeroEntry : List ℕ → ℕ → Bool
+zeroEntry s at =
+    cond (eqb (wordAt s at) 0)
+    (cond (eqb (wordAt s (at + 4)) 0)
+    (cond (eqb (wordAt s (at + 8)) 0) (eqb (wordAt s (at + 12)) 0) false) false) false
+
+-- among the `n` entries from `at` on is one of zero bytes
+unfoldable pub listEnds : List ℕ → ℕ → ℕ → Bool
+listEnds s at zero = false
+listEnds s at (suc n) = cond (zeroEntry s at) true (listEnds s (at + 16) n)
+
+unfoldable pub headerOk : List ℕ → ℕ → Bool
+headerOk s total =
+    cond (eqb (wordAt s 0) 0xD00DFEED)
+    (cond (ltb (wordAt s 20) 17) false
+    (cond (ltb 17 (wordAt s 24)) false
+    (cond (eqb (wordAt s 16 % 8) 0)
+    (cond (eqb (wordAt s 8 % 4) 0) (listEnds s (wordAt s 16) ((total - wordAt s 16) / 16)) false) false))) false
+
+-- the bytes from a place to another
+abbrev pub part : List ℕ → ℕ → ℕ → List ℕ
+part s from to = take (to - from) (drop from s)
+
+-- the first pass decides whether there are pairs, and these blocks have them
+unfoldable pub memoryBy : Verdict → Blocks → Memory
+memoryBy verdict.Accepted b = Pairs (cursorAt b)
+memoryBy verdict.Invalid b = Invalid
+memoryBy verdict.UnsupportedCellCounts b = UnsupportedCellCounts
+
+-- the answer of the blocks at some places
+unfoldable pub blocksMemory : List ℕ → Blocks → Memory
+blocksMemory s b = memoryBy (judgedBlock (part s (b .block .from) (b .block .to)) (part s (b .strings .from) (b .strings .to))) b
+
+unfoldable pub blobMemory : List ℕ → ℕ → Memory
+blobMemory s total =
+    cond (headerOk s total)
+    (cond (ltb total (wordAt s 8 + wordAt s 36)) Invalid
+    (cond (ltb total (wordAt s 12 + wordAt s 32)) Invalid
+    (blocksMemory s (blocksAt (wordAt s 8) (wordAt s 8 + wordAt s 36) (wordAt s 12) (wordAt s 12 + wordAt s 32)))))
+    Invalid
+
+unfoldable pub memoryOf : List ℕ → Memory
+memoryOf s =
+    cond (ltb (length s) 40) Invalid
+    (cond (ltb (wordAt s 4) 40) Invalid
+    (cond (ltb 65536 (wordAt s 4)) Invalid
+    (cond (ltb (length s) (wordAt s 4)) Invalid
+    (blobMemory s (wordAt s 4)))))
+
+unfoldable pub insideOf : ℕ → ℕ → ℕ → Bool
+insideOf n from to = cond (ltb 65536 to) false (cond (ltb n to) false (cond (ltb to from) false true))
+
+-- the pairs left at a cursor; a cursor that is not of this slice may have none
+unfoldable pub pairsLeft : List ℕ → Cursor → List Pair
+pairsLeft s c =
+    cond (insideOf (length s) (c .blocks .block .from) (c .blocks .block .to))
+    (cond (insideOf (length s) (c .blocks .strings .from) (c .blocks .strings .to))
+    (leftIn (part s (c .blocks .block .from) (c .blocks .block .to)) (part s (c .blocks .strings .from) (c .blocks .strings .to)) (c .walk))
+    []) []
+
+-- a slice's memory as an answer, with all the pairs that are left at its cursor
+unfoldable pub answerIn : List ℕ → Memory → Answer
+answerIn s Invalid = invalid
+answerIn s UnsupportedCellCounts = unsupported
+answerIn s (Pairs cursor) = pairs (pairsLeft s cursor)
+
+-- what the reader answers
+unfoldable pub answerOf : List ℕ → Answer
+answerOf s = answerIn s (memoryOf s)

@@ -1,0 +1,121 @@
+-- The nodes up to a place in the structure block, as the reader keeps them. Assumes nothing.
+use Prim.Native.Nat.{ℕ, _+_, _-_, _%_, _^_}
+use mathlib.Core.Bool.{Bool, true, false, not, cond}
+use mathlib.Core.List.{List, [], _∷_}
+use lib.Dec.{eqb}
+use lib.ListN.{drop}
+use Rattle.fdt_tokens.specs.Devicetree.{hasZero, oneOrTwo}
+use Rattle.fdt_tokens.specs.Bytes.{wordAt, begins}
+use Rattle.fdt_tokens.specs.declared.Event.{Event}
+use Rattle.fdt_tokens.specs.declared.Event.the-variants.{Nothing, Begin, EndNode, Prop, End}
+use Rattle.fdt_nodes.specs.declared.First.{First}
+use Rattle.fdt_nodes.specs.declared.Nodes.{Nodes}
+
+-- "#address-cells", "#size-cells", "device_type", "reg", "memory", each with its zero byte
+abbrev pub addressCells : List ℕ
+addressCells = 35 ∷ 97 ∷ 100 ∷ 100 ∷ 114 ∷ 101 ∷ 115 ∷ 115 ∷ 45 ∷ 99 ∷ 101 ∷ 108 ∷ 108 ∷ 115 ∷ 0 ∷ []
+
+abbrev pub sizeCells : List ℕ
+sizeCells = 35 ∷ 115 ∷ 105 ∷ 122 ∷ 101 ∷ 45 ∷ 99 ∷ 101 ∷ 108 ∷ 108 ∷ 115 ∷ 0 ∷ []
+
+abbrev pub deviceType : List ℕ
+deviceType = 100 ∷ 101 ∷ 118 ∷ 105 ∷ 99 ∷ 101 ∷ 95 ∷ 116 ∷ 121 ∷ 112 ∷ 101 ∷ 0 ∷ []
+
+abbrev pub regName : List ℕ
+regName = 114 ∷ 101 ∷ 103 ∷ 0 ∷ []
+
+abbrev pub memory : List ℕ
+memory = 109 ∷ 101 ∷ 109 ∷ 111 ∷ 114 ∷ 121 ∷ 0 ∷ []
+
+abbrev pub absent : First
+absent = record { seen = false; length = 0; value = 0 }
+
+-- in a node the first property of a name counts
+unfoldable pub firstOf : First → ℕ → ℕ → First
+firstOf f n v = cond (f .seen) f (record { seen = true; length = n; value = v })
+
+unfoldable pub firstNamed : List ℕ → ℕ → List ℕ → First → ℕ → ℕ → First
+firstNamed strings name text f n v = cond (begins text (drop name strings)) (firstOf f n v) f
+
+-- a cell, in a value of four bytes
+unfoldable pub cellAt : List ℕ → ℕ → ℕ → ℕ
+cellAt s at n = cond (eqb n 4) (wordAt s at) 0
+
+-- nodes with another place in the tree, other counts, another last child
+abbrev pub placed : Nodes → ℕ → Bool → Bool → Nodes
+placed n d o r =
+    record { ok = n .ok; depth = d; props = o; rooted = r; address = n .address; size = n .size; kind = n .kind; reg = n .reg }
+
+abbrev pub withCounts : Nodes → First → First → Nodes
+withCounts n a s =
+    record { ok = n .ok; depth = n .depth; props = n .props; rooted = n .rooted; address = a; size = s; kind = n .kind; reg = n .reg }
+
+abbrev pub withChild : Nodes → First → First → Nodes
+withChild n k r =
+    record { ok = n .ok; depth = n .depth; props = n .props; rooted = n .rooted; address = n .address; size = n .size; kind = k; reg = r }
+
+unfoldable pub badNodes : Nodes → Nodes
+badNodes n =
+    record { ok = false; depth = n .depth; props = n .props; rooted = n .rooted; address = n .address; size = n .size; kind = n .kind; reg = n .reg }
+
+-- device_type is the seven bytes of "memory" and a zero byte
+unfoldable pub isMemory : First → Bool
+isMemory k = cond (eqb (k .length) 7) (eqb (k .value) 1) false
+
+unfoldable pub flag : Bool → ℕ
+flag b = cond b 1 0
+
+-- the bytes of one cell, or of two; those of a pair
+unfoldable pub width : ℕ → ℕ
+width n = cond (eqb n 1) 4 8
+
+unfoldable pub pairBytes : ℕ → ℕ → ℕ
+pairBytes a z = width a + width z
+
+unfoldable pub raggedReg : ℕ → ℕ → ℕ → Bool
+raggedReg n a z = cond (oneOrTwo a) (cond (oneOrTwo z) (not (eqb (n % pairBytes a z) 0)) false) false
+
+unfoldable pub beginNode : Nodes → Nodes
+beginNode n =
+    cond (eqb (n .depth) 0)
+    (cond (n .rooted) (badNodes n) (placed n 1 true true))
+    (cond (eqb (n .depth) 1) (withChild (placed n 2 true (n .rooted)) absent absent)
+    (placed n ((n .depth + 1) % 2 ^ 64) true (n .rooted)))
+
+-- a memory child's reg is judged at its end
+unfoldable pub childEnd : Nodes → Nodes
+childEnd n =
+    cond (eqb (n .depth) 1)
+    (cond (isMemory (n .kind)) (cond (raggedReg (n .reg .length) (n .address .value) (n .size .value)) (badNodes n) n) n)
+    n
+
+unfoldable pub endNode : Nodes → Nodes
+endNode n = cond (eqb (n .depth) 0) (badNodes n) (childEnd (placed n (n .depth - 1) false (n .rooted)))
+
+unfoldable pub rootProperty : List ℕ → List ℕ → ℕ → Nodes → ℕ → ℕ → Nodes
+rootProperty s strings at n w name =
+    withCounts n (firstNamed strings name addressCells (n .address) w (cellAt s at w)) (firstNamed strings name sizeCells (n .size) w (cellAt s at w))
+
+unfoldable pub childProperty : List ℕ → List ℕ → ℕ → Nodes → ℕ → ℕ → Nodes
+childProperty s strings at n w name =
+    withChild n (firstNamed strings name deviceType (n .kind) w (flag (begins memory (drop at s)))) (firstNamed strings name regName (n .reg) w at)
+
+unfoldable pub property : List ℕ → List ℕ → ℕ → Nodes → ℕ → ℕ → Nodes
+property s strings at n w name =
+    cond (n .props)
+    (cond (hasZero (drop name strings))
+    (cond (eqb (n .depth) 1) (rootProperty s strings at n w name)
+    (cond (eqb (n .depth) 2) (childProperty s strings at n w name)
+    n))
+    (badNodes n))
+    (badNodes n)
+
+unfoldable pub ended : Nodes → Nodes
+ended n = cond (eqb (n .depth) 0) (cond (n .rooted) n (badNodes n)) (badNodes n)
+
+unfoldable pub advance : List ℕ → List ℕ → ℕ → Nodes → Event → Nodes
+advance s strings at n Nothing = n
+advance s strings at n Begin = beginNode n
+advance s strings at n EndNode = endNode n
+advance s strings at n (Prop w name) = property s strings at n w name
+advance s strings at n End = ended n

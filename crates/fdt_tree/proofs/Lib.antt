@@ -1,0 +1,11 @@
+pub mod Steps
+pub mod Deep
+pub mod Firsts
+pub mod Children
+pub mod Memory
+pub mod Answer
+pub mod Shape
+pub mod Header
+pub mod Theorems
+pub mod Worked
+pub mod Dtc

@@ -1,0 +1,1 @@
+-- The theorems stand in proofs/, the definitions in fdt_tokens.
