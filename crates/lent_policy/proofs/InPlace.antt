@@ -7,7 +7,7 @@ use native.Mathlib.Nat.{add-zero, zero-add}
 use lib.ListN.{length, set}
 use Rattle.lent_words.specs.Words.{wordAt, withWord, each, storeEach, wordsAt, withWords, keptCode, Lent}
 use Rattle.lent_words.proofs.RoundTrip.{words-beside, code-kept, lent-words}
-use Rattle.lent_words.proofs.InPlace.{words-rewritten, one-stored, word-comm}
+use Rattle.lent_words.proofs.InPlace.{word-rewritten, words-rewritten, words-again, one-stored, store-kept, store-again, store-beside, word-again, word-comm}
 use Rattle.stage2_range.specs.declared.Stage2Range.{Stage2Range}
 use Rattle.stage2_range.specs.declared.MemoryAccessRegion.{MemoryAccessRegion}
 use Rattle.stage2_range.specs.Ranges.{rangeWords}
@@ -96,3 +96,32 @@ range-stored b k r count lent h =
     ap (λ (c : List ℕ). withWord c allowedCountAt count)
     (one-stored rangeAt withRange (Lent policySize) range-lent range-rewritten range-beside b 0 32 k r h lent
     ∙ ap (λ (j : ℕ). withRange b j r) (zero-add k))
+
+-- the second of two stores of a range at one place counts
+range-again : (b : List ℕ) (k : ℕ) (x y : Stage2Range) → withRange (withRange b k x) k y ≡ withRange b k y
+unfolding withRange
+range-again b k x y = words-again b (rangeStart k) (rangeWords x) (rangeWords y) refl
+
+-- ranges stored at two places, in either order
+range-comm : (b : List ℕ) (i : ℕ) (x : Stage2Range) (j : ℕ) (y : Stage2Range) → (i ≡ j → ⊥)
+    → withRange (withRange b i x) j y ≡ withRange (withRange b j y) i x
+unfolding withRange
+range-comm b i x j y h = words-comm (rangeWords x) (rangeWords y) b (rangeStart i) (rangeStart j) (λ k m l u e. omega arith)
+
+-- of allowed ranges stored twice the second count
+pub allowed-again : (b : List ℕ) (rs : List Stage2Range) (n : ℕ) (rs′ : List Stage2Range) (n′ : ℕ) → length rs ≡ 32 → length rs′ ≡ 32
+    → withAllowed (withAllowed b rs n) rs′ n′ ≡ withAllowed b rs′ n′
+unfolding withAllowed withRange
+allowed-again b rs n rs′ n′ h h′ =
+    ap (λ (c : List ℕ). withWord c allowedCountAt n′)
+    (store-beside withRange (λ c. withWord c allowedCountAt n) 32 (λ c k x u. words-comm (n ∷ []) (rangeWords x) c allowedCountAt (rangeStart k) (λ j i l m e. omega arith))
+    rs′ (storeEach withRange b 0 rs) 0 (omega arith))
+    ∙ word-again (storeEach withRange (storeEach withRange b 0 rs) 0 rs′) allowedCountAt n n′
+    ∙ ap (λ (c : List ℕ). withWord c allowedCountAt n′) (store-again withRange range-again range-comm rs rs′ b 0 (h ∙ sym h′))
+
+-- to store the allowed ranges that stand there changes nothing
+pub allowed-rewritten : (b : List ℕ) → Lent policySize b → withAllowed b (each (rangeAt b) 0 32) (wordAt b allowedCountAt) ≡ b
+unfolding withAllowed
+allowed-rewritten b lent =
+    ap (λ (c : List ℕ). withWord c allowedCountAt (wordAt b allowedCountAt)) (store-kept rangeAt withRange (Lent policySize) range-lent range-rewritten range-beside b 0 32 lent)
+    ∙ word-rewritten b allowedCountAt (lent .bytes)

@@ -27,30 +27,6 @@ use Rattle.lent_policy.proofs.Records.{RangeFits, RegionFits, asked-range-fits,
 use Rattle.lent_policy.proofs.States.{allowed-back, regions-back}
 use Rattle.ritm.specs.Interface.{unlessRefused, allowCall, handleCall}
 
--- `ritm_allow_range`
-pub allow-held : (b : List ℕ) (base size attributes : ℕ) → Lent policySize b → FitsWord base → FitsWord size → FitsWord attributes
-    → policyAt (allowCall b base size attributes .state) ≡ allowRange (policyAt b) base size attributes .policy
-unfolding allowCall allowRange policyAt policy.addAllowed
-allow-held b base size attributes lent f g h = go (allowAnswer p base size) refl
-  where
-    p : Policy
-    p = policyAt b
-
-    next : Policy
-    next = policy.addAllowed p (rangeOf base size attributes)
-
-    go : (answer : Stage2Result) → allowAnswer p base size ≡ answer
-        → policyAt (unlessRefused (resultNumber (builtBy answer p next .answer)) b (withAllowed b (builtBy answer p next .policy .allowed) (builtBy answer p next .policy .«allowed_count»)))
-        ≡ builtBy answer p next .policy
-    go (Refused e) q = rw (ne-eqb (errorNumber e) 0 (error-not-zero e))
-    go Accepted q =
-        let can = allow-accepted p base size attributes (ap (λ a. builtBy a p next .answer) q) in
-        let ranges = p .allowed in
-        allowed-back b (set ranges (p .«allowed_count») (rangeOf base size attributes)) (p .«allowed_count» + 1) (lent .long)
-        (length-set ranges (p .«allowed_count») (rangeOf base size attributes) ∙ length-each (rangeAt b) 0 32)
-        (every-set RangeFits ranges (p .«allowed_count») (rangeOf base size attributes) (every-each RangeFits (rangeAt b) (range-fits b (lent .bytes)) 0 32) (asked-range-fits base size attributes f g h))
-        (omega (arith, can .room))
-
 -- regions with one more fit words
 inserted-fits : (rs : List MemoryAccessRegion) (n : ℕ) (r : MemoryAccessRegion) → n < length rs → Every RegionFits rs → RegionFits r
     → Every RegionFits (insertRegion rs n r)

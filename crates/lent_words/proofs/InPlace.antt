@@ -121,6 +121,33 @@ word-comm b i v j w h = go (leb (8 * i + 8) (length b)) (leb (8 * j + 8) (length
         ∙ ap (λ (c : List ℕ). sets c (8 * i) (toBytes 8 v)) (sym (word-stored b j w at-j))
         ∙ sym (word-stored (withWord b j w) i v (omega (arith, length-word b j w)))
 
+-- Places of an array, where the second of two stores at one place counts, and stores at two places may change their order.
+module _ {A : Type 0} (put : List ℕ → ℕ → A → List ℕ) (again : (b : List ℕ) (k : ℕ) (x y : A) → put (put b k x) k y ≡ put b k y)
+    (comm : (b : List ℕ) (i : ℕ) (x : A) (j : ℕ) (y : A) → (i ≡ j → ⊥) → put (put b i x) j y ≡ put (put b j y) i x) where
+  -- a store at a place before those of an array
+  store-before : (xs : List A) (b : List ℕ) (k i : ℕ) (x : A) → i < k → put (storeEach put b k xs) i x ≡ storeEach put (put b i x) k xs
+  store-before [] b k i x h = refl
+  store-before (y ∷ ys) b k i x h =
+      store-before ys (put b k y) (suc k) i x (omega arith)
+      ∙ ap (λ (c : List ℕ). storeEach put c (suc k) ys) (comm b k y i x (omega arith))
+
+  -- the second of two arrays stored at one place counts
+  pub store-again : (xs ys : List A) (b : List ℕ) (k : ℕ) → length xs ≡ length ys → storeEach put (storeEach put b k xs) k ys ≡ storeEach put b k ys
+  store-again [] [] b k h = refl
+  store-again [] (y ∷ ys) b k h = absurd (omega arith)
+  store-again (x ∷ xs) [] b k h = absurd (omega arith)
+  store-again (x ∷ xs) (y ∷ ys) b k h =
+      ap (λ (c : List ℕ). storeEach put c (suc k) ys) (store-before xs (put b k x) (suc k) k y (omega arith) ∙ ap (λ (c : List ℕ). storeEach put c (suc k) xs) (again b k x y))
+      ∙ store-again xs ys (put b k y) (suc k) (omega arith)
+
+-- an array stored after a change that lies beside its places
+pub store-beside : {A : Type 0} (put : List ℕ → ℕ → A → List ℕ) (changed : List ℕ → List ℕ) (limit : ℕ)
+    → ((b : List ℕ) (k : ℕ) (x : A) → k < limit → put (changed b) k x ≡ changed (put b k x))
+    → (xs : List A) (b : List ℕ) (k : ℕ) → k + length xs ≤ limit → storeEach put (changed b) k xs ≡ changed (storeEach put b k xs)
+store-beside put changed limit beside [] b k h = refl
+store-beside put changed limit beside (x ∷ xs) b k h =
+    ap (λ (c : List ℕ). storeEach put c (suc k) xs) (beside b k x (omega arith)) ∙ store-beside put changed limit beside xs (put b k x) (suc k) (omega arith)
+
 -- Words stored one after the other.
 module _ (b : List ℕ) (at : ℕ) where
   -- to store the words that stand there changes nothing
@@ -132,6 +159,12 @@ module _ (b : List ℕ) (at : ℕ) where
       go k (suc n) =
           ap (λ (c : List ℕ). storeEach (λ l j w. withWord l (at + j) w) c (suc k) (each (λ j. wordAt b (at + j)) (suc k) n)) (word-rewritten b (at + k) h)
           ∙ go (suc k) n
+
+  -- the second of two stores at one place counts
+  pub words-again : (ws vs : List ℕ) → length ws ≡ length vs → withWords (withWords b at ws) at vs ≡ withWords b at vs
+  words-again ws vs h =
+      store-again (λ c j w. withWord c (at + j) w) (λ c k. word-again c (at + k)) (λ c i x j y n. word-comm c (at + i) x (at + j) y (λ e. n (omega arith)))
+      ws vs b 0 h
 
   -- words of which one is replaced are the words stored, and then that one
   pub words-set : (ws : List ℕ) (i v : ℕ) → i < length ws → withWords b at (set ws i v) ≡ withWord (withWords b at ws) (at + i) v

@@ -23,6 +23,8 @@ use Rattle.stage2.specs.declared.Policy.{Policy}
 use Rattle.stage2.specs.declared.Built.{Built}
 use Rattle.stage2.specs.Policy.{allowedHeld, regionsHeld}
 use Rattle.stage2.specs.Builds.{BuilderCall, allow, handle, build, buildAll, Apart, CanAllow, CanHandle, WellFormed}
+use Rattle.memory_import.specs.Changes.{PolicyCall, change, changeAll, takenApart, allApart}
+use Rattle.memory_import.proofs.Changes.{change-refused, change-keeps, AllBuilt, all-parts, accepted-apart, apart-accepted, build-append}
 use Rattle.order_independence.specs.Builds.{accepts, accepted, AllAccepted, SamePolicy}
 use Rattle.stage2.proofs.Laws.{build-refused, allow-accepted, can-allow, handle-accepted, can-handle}
 use Rattle.stage2.proofs.WellFormed.{build-keeps}
@@ -192,57 +194,58 @@ perm-leads (List·Permᴰ·swap {a = a} {b = b} {l = l} e₁ e₂) v u h =
     subst₂ (λ x y. Leads v (x ∷ y ∷ l) u) e₂ e₁ (t .0, (t .1, subst (λ x. Leads x l u) (t .2) (h .1 .1)))
 perm-leads (List·Permᴰ·trans d₁ d₂) v u h = perm-leads d₂ v u (perm-leads d₁ v u h)
 
--- the calls of a list that are accepted lead to what is held after all of them
-accepted-leads : (p : Policy) (calls : List BuilderCall) → WellFormed p → Leads (view p) (accepted p calls) (view (buildAll p calls))
+-- calls that are all accepted lead to what is held after them
+built-leads : (calls : List BuilderCall) (p : Policy) (rest : List BuilderCall) (u : View) → WellFormed p → AllBuilt p calls
+    → Leads (view (buildAll p calls)) rest u → Leads (view p) (calls ++ rest) u
+built-leads [] p rest u w a h = h
+built-leads (c ∷ cs) p rest u w a h =
+    let f = accepted-fits p w c (a .0) in
+    (f, subst (λ v. Leads v (cs ++ rest) u) (fits-accepted p w c f .1) (built-leads cs (build p c .policy) rest u (build-keeps p c w) (a .1) h))
+
+-- the calls of a list that are accepted, taken apart, lead to what is held after all of them
+accepted-leads : (p : Policy) (calls : List PolicyCall) → WellFormed p → Leads (view p) (accepted p calls) (view (changeAll p calls))
 accepted-leads p [] w = refl
-accepted-leads p (c ∷ cs) w = go (accepts p c) refl (accepted-leads (build p c .policy) cs (build-keeps p c w))
+accepted-leads p (c ∷ cs) w = go (accepts p c) refl (accepted-leads (change p c .policy) cs (change-keeps p c w))
   where
     rest : List BuilderCall
-    rest = accepted (build p c .policy) cs
+    rest = accepted (change p c .policy) cs
 
     end : View
-    end = view (buildAll p (c ∷ cs))
+    end = view (changeAll p (c ∷ cs))
 
-    go : (b : Bool) → accepts p c ≡ b → Leads (view (build p c .policy)) rest end → Leads (view p) (cond b (c ∷ rest) rest) end
+    go : (b : Bool) → accepts p c ≡ b → Leads (view (change p c .policy)) rest end → Leads (view p) (cond b (takenApart c ++ rest) rest) end
     go true e h =
-        let f = accepted-fits p w c (zero-accepted (build p c .answer) (eqb-true _ 0 e)) in
-        (f, subst (λ v. Leads v rest end) (fits-accepted p w c f .1) h)
-    go false e h = subst (λ q. Leads (view q) rest end) (build-refused p c (eqb-false _ 0 e)) h
+        let a = accepted-apart p c (zero-accepted (change p c .answer) (eqb-true _ 0 e)) in
+        built-leads (takenApart c) p rest end w (a .0) (subst (λ q. Leads (view q) rest end) (a .1) h)
+    go false e h = subst (λ q. Leads (view q) rest end) (change-refused p c (eqb-false _ 0 e)) h
 
 -- calls that fit one after the other are all accepted
 leads-accepted : (p : Policy) (calls : List BuilderCall) (u : View) → WellFormed p → Leads (view p) calls u
-    → AllAccepted p calls × (view (buildAll p calls) ≡ u)
+    → AllBuilt p calls × (view (buildAll p calls) ≡ u)
 leads-accepted p [] u w h = (tt, h)
 leads-accepted p (c ∷ cs) u w h =
     let f = fits-accepted p w c (h .0) in
     let r = leads-accepted (build p c .policy) cs u (build-keeps p c w) (subst (λ v. Leads v cs u) (sym (f .1)) (h .1)) in
     ((f .0, r .0), r .1)
 
--- two lists of calls are all accepted one after the other
-pub all-append : (a b : List BuilderCall) (p : Policy) → AllAccepted p a → AllAccepted (buildAll p a) b → AllAccepted p (a ++ b)
-all-append [] b p h k = k
-all-append (c ∷ cs) b p h k = (h .0, all-append cs b (build p c .policy) (h .1) k)
-
--- and where both together are, each is
-pub all-parts : (a b : List BuilderCall) (p : Policy) → AllAccepted p (a ++ b) → AllAccepted p a × AllAccepted (buildAll p a) b
-all-parts [] b p h = (tt, h)
-all-parts (c ∷ cs) b p h =
-    let r = all-parts cs b (build p c .policy) (h .1) in
-    ((h .0, r .0), r .1)
-
--- where all calls are accepted, the accepted ones are all
-pub accepted-all : (calls : List BuilderCall) (p : Policy) → AllAccepted p calls → accepted p calls ≡ calls
-accepted-all [] p h = refl
-accepted-all (c ∷ cs) p h =
-    let e : accepts p c ≡ true = rw (h .0) refl in
-    rw e (ap (_∷_ c) (accepted-all cs (build p c .policy) (h .1)))
+-- where the builder calls of a list are all accepted, so are its calls, and the policy is the same
+pub apart-all : (calls : List PolicyCall) (p : Policy) → AllBuilt p (allApart calls)
+    → AllAccepted p calls × (changeAll p calls ≡ buildAll p (allApart calls))
+apart-all [] p h = (tt, refl)
+apart-all (c ∷ cs) p h =
+    let parts = all-parts (takenApart c) (allApart cs) p h in
+    let one = apart-accepted p c (parts .0) in
+    let r = apart-all cs (change p c .policy) (subst (λ q. AllBuilt q (allApart cs)) (sym (one .1)) (parts .1)) in
+    ((one .0, r .0), r .1 ∙ (ap (λ q. buildAll q (allApart cs)) (one .1) ∙ sym (build-append (takenApart c) (allApart cs) p)))
 
 -- The calls of a list that are accepted, in any order: each is accepted again, and the policies are the same.
-pub any-order : (p q : Policy) (calls order : List BuilderCall) → WellFormed p → WellFormed q → SamePolicy p q
-    → List·Permᴰ (accepted p calls) order → AllAccepted q order × SamePolicy (buildAll p calls) (buildAll q order)
+pub any-order : (p q : Policy) (calls order : List PolicyCall) → WellFormed p → WellFormed q → SamePolicy p q
+    → List·Permᴰ (accepted p calls) (allApart order) → AllAccepted q order × SamePolicy (changeAll p calls) (changeAll q order)
 any-order p q calls order w w′ same d =
-    let end : View = view (buildAll p calls) in
+    let end : View = view (changeAll p calls) in
     let e : view p ≡ view q = λ i. record { allowed = same .allowed i; regions = same .regions i } in
     let h = subst (λ v. Leads v (accepted p calls) end) e (accepted-leads p calls w) in
-    let r = leads-accepted q order end w′ (perm-leads d (view q) end h) in
-    (r .0, record { regions = λ i. sym (r .1) i .regions; allowed = λ i. sym (r .1) i .allowed })
+    let r = leads-accepted q (allApart order) end w′ (perm-leads d (view q) end h) in
+    let a = apart-all order q (r .0) in
+    let f : end ≡ view (changeAll q order) = sym (ap view (a .1) ∙ r .1) in
+    (a .0, record { regions = λ i. f i .regions; allowed = λ i. f i .allowed })

@@ -2,7 +2,7 @@
 use mathlib.Core.Path.{_≡_, refl, ap}
 use mathlib.Core.List.{List·Memᴰ·not-nil}
 use lib.Seq.{set-getD}
-use Rattle.stage2.proofs.Changes.{change-refused}
+use Rattle.memory_import.proofs.Changes.{change-refused}
 use Rattle.simple_map.proofs.Laws.{insert-refused}
 use Rattle.exceptions.specs.Registers.{freshCore, coreOf}
 use Rattle.exceptions.proofs.Laws.{write-refused}

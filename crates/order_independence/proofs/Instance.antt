@@ -8,9 +8,10 @@ use native.Mathlib.Omega.{arith}
 use borrow.Author.Tests.{eqb-true}
 use lib.Dec.{eqb}
 use Rattle.lists.specs.Lists.{select}
-use Rattle.stage2.specs.Builds.{BuilderCall, handle}
+use Rattle.stage2.specs.Builds.{handle}
+use Rattle.memory_import.specs.Changes.{PolicyCall, builder}
 use Rattle.hypervisor.proofs.Opened as hypervisor
-use Rattle.order_independence.specs.Calls.{State, freshState, CoreCall, trap, afterBuilds}
+use Rattle.order_independence.specs.Calls.{State, freshState, CoreCall, trap, afterChanges}
 use Rattle.order_independence.specs.Steps.{isOwn, Named, Loads}
 use Rattle.order_independence.specs.OrderIndependence.{Reordered, Separate, Found}
 use Rattle.order_independence.proofs.Needed.{page, load}
@@ -21,8 +22,8 @@ use Rattle.bits.specs.Bits.{bitsAt}
 abbrev key : ℕ → ℕ
 key i = 100 + i
 
-abbrev calls : List BuilderCall
-calls = handle 0x0F000000 4096 1 1 ∷ []
+abbrev calls : List PolicyCall
+calls = builder (handle 0x0F000000 4096 1 1) ∷ []
 
 abbrev first : List CoreCall
 first = trap 1 hvc ∷ trap 0 load ∷ []
@@ -64,7 +65,7 @@ all-named c m = go (List·Memᴰ·cases-cons m)
     go (inl e) = rw e tt
     go (inr m′) = later (List·Memᴰ·cases-cons m′)
 
-apart : Separate key (afterBuilds freshState calls) first
+apart : Separate key (afterChanges freshState calls) first
 apart = record {
   one-loader = λ i j l m. loader-is-0 page i l ∙ sym (loader-is-0 page j m);
   keys-differ = λ c d h k e. omega arith;

@@ -5,6 +5,7 @@ use mathlib.Core.List.{List, [], _∷_, map}
 use native.Mathlib.Omega.{arith}
 use lib.ListN.{getD}
 use Rattle.stage2.specs.Builds.{handle}
+use Rattle.memory_import.specs.Changes.{builder}
 use Rattle.simple_map.specs.declared.SuspendCoreData.{SuspendCoreData}
 use Rattle.simple_map.specs.declared.Insertion.the-variants.{Accepted, CapacityExceeded}
 use Rattle.simple_map.specs.Map.{getItem, lookupValues}
@@ -12,13 +13,13 @@ use Rattle.exceptions.specs.Registers.{coreOf}
 use Rattle.data_abort.specs.declared.TrapRegisters.{TrapRegisters}
 use Rattle.simple_map.proofs.Opened as simple-map
 use Rattle.hypervisor.proofs.Opened as hypervisor
-use Rattle.order_independence.specs.Calls.{State, freshState, by-value, CoreCall, trap, write-gpr, insert, Answer, inserted, afterBuilds, afterSteps, answersTo}
+use Rattle.order_independence.specs.Calls.{State, freshState, by-value, CoreCall, trap, write-gpr, insert, Answer, inserted, afterChanges, afterSteps, answersTo}
 use Rattle.order_independence.specs.Steps.{isOwn}
 use Rattle.order_independence.specs.OrderIndependence.{Same}
 
 -- a state with the filtered MMIO page, and a 64-bit load of its word at 16 into x5
 abbrev pub page : State
-page = afterBuilds freshState (handle 0x0F000000 4096 1 1 ∷ [])
+page = afterChanges freshState (builder (handle 0x0F000000 4096 1 1) ∷ [])
 
 abbrev pub load : TrapRegisters
 load = record { esr = 0x93C58000; fipa = record { 0 = 0xF000 }; far = 0x10; vbar = 0 }

@@ -9,16 +9,16 @@ use lib.Seq.{ext-getD}
 use Rattle.lists.proofs.Sorting.{perm-member}
 use Rattle.stage2_range.specs.declared.MemoryAccessRegion.{MemoryAccessRegion}
 use Rattle.stage2.specs.Policy.{regionsHeld}
-use Rattle.stage2.specs.Builds.{buildAll}
+use Rattle.memory_import.specs.Changes.{changeAll}
 use Rattle.order_independence.proofs.Builds.{any-order}
 use Rattle.simple_map.specs.Keys.{KeysDiffer}
-use Rattle.order_independence.specs.Calls.{State, freshState, CoreCall, coreCall, afterBuilds, afterSteps}
+use Rattle.order_independence.specs.Calls.{State, freshState, CoreCall, coreCall, afterChanges, afterSteps}
 use Rattle.order_independence.specs.Steps.{Named, Loads}
 use Rattle.order_independence.specs.OrderIndependence.{Same, OrderIndependentFrom, OrderIndependent, Sound}
 use Rattle.order_independence.proofs.Mixing.{Moves, mixed}
 use Rattle.order_independence.proofs.CoreCalls.{Part, coreSystem, core-laws}
 use Rattle.order_independence.proofs.Counter.{counter-kept, own-load}
-use Rattle.order_independence.proofs.Runs.{fresh-sound, sound-builds, sound-steps, steps-policy, same-refl, all-above-10}
+use Rattle.order_independence.proofs.Runs.{fresh-sound, sound-changes, sound-steps, steps-policy, same-refl, all-above-10}
 use Rattle.exceptions.specs.Registers.{coreOf, freshCore}
 
 -- A core that changes the counter cannot but load its word, so where one core at most loads it, one at most changes it.
@@ -45,11 +45,11 @@ order-independent-from key s t sound-s sound-t same calls order steps again done
     let differ = apart .keys-differ in
     let b =
     any-order (s .policy) (t .policy) calls order (sound-s .well-formed) (sound-t .well-formed) (same .policies) (done .same-calls) in
-    let regions = regionsHeld (buildAll (s .policy) calls) in
-    let p : State = afterBuilds s calls in
-    let q : State = afterBuilds t order in
-    let sound-p = sound-builds key s calls sound-s in
-    let sound-q = sound-builds key t order sound-t in
+    let regions = regionsHeld (changeAll (s .policy) calls) in
+    let p : State = afterChanges s calls in
+    let q : State = afterChanges t order in
+    let sound-p = sound-changes key s calls sound-s in
+    let sound-q = sound-changes key t order sound-t in
     let named = perm-member (done .same-steps) (Named key) (apart .all-named) in
     let m =
     mixed (coreSystem key regions) (core-laws key differ regions) p q steps again (sound-p, refl) (sound-q, sym (b .1 .regions))

@@ -5,14 +5,15 @@ use mathlib.Core.Bool.{Bool, true, false, cond, true≢false}
 use mathlib.Core.List.{List, [], _∷_, List·Memᴰ, List·Memᴰ·head, List·Memᴰ·tail, List·Memᴰ·not-nil, List·Memᴰ·cases-cons}
 use mathlib.Core.Logic.{_⊎_, inl, inr}
 use native.Mathlib.Omega.{arith}
-use Rattle.stage2.specs.Builds.{BuilderCall}
-use Rattle.stage2.proofs.WellFormed.{fresh-well-formed, build-all-keeps}
+use Rattle.memory_import.specs.Changes.{PolicyCall}
+use Rattle.memory_import.proofs.Changes.{change-all-keeps}
+use Rattle.stage2.proofs.WellFormed.{fresh-well-formed}
 use Rattle.simple_map.specs.Map.{insertNumber}
 use Rattle.simple_map.specs.Keys.{KeysDiffer}
 use Rattle.simple_map.proofs.Keys.{empty-holds, insert-accepted}
 use Rattle.hypervisor.specs.Cores.{freshCores}
 use Rattle.hypervisor.proofs.Refusals.{save-number, reply-number, trap-number}
-use Rattle.order_independence.specs.Calls.{State, freshState, CoreCall, save, trap, reply, write-gpr, insert, get, remove, core-call, Answer, answerNumber, answerValues, AllZero, coreCall, afterBuilds, afterSteps, answersTo}
+use Rattle.order_independence.specs.Calls.{State, freshState, CoreCall, save, trap, reply, write-gpr, insert, get, remove, core-call, Answer, answerNumber, answerValues, AllZero, coreCall, afterChanges, afterSteps, answersTo}
 use Rattle.order_independence.specs.Steps.{isAbove, Named, AllNamed}
 use Rattle.order_independence.specs.OrderIndependence.{AboveAnswer10, Same, Sound}
 use Rattle.order_independence.proofs.Calls.{refusal-zero}
@@ -23,9 +24,9 @@ pub fresh-sound : (key : ℕ → ℕ) → Sound key freshState
 unfolding freshState freshCores
 fresh-sound key = record { well-formed = fresh-well-formed; eight = refl; holds = empty-holds key }
 
-pub sound-builds : (key : ℕ → ℕ) (s : State) (calls : List BuilderCall) → Sound key s → Sound key (afterBuilds s calls)
-sound-builds key s calls sound = record {
-  well-formed = build-all-keeps (s .policy) calls (sound .well-formed);
+pub sound-changes : (key : ℕ → ℕ) (s : State) (calls : List PolicyCall) → Sound key s → Sound key (afterChanges s calls)
+sound-changes key s calls sound = record {
+  well-formed = change-all-keeps (s .policy) calls (sound .well-formed);
   eight = sound .eight;
   holds = sound .holds;
 }
@@ -38,9 +39,9 @@ sound-steps key differ (c ∷ cs) s sound named =
     (λ d m. named d (List·Memᴰ·tail m))
 
 -- so where one run ends another can begin
-pub sound-run : (key : ℕ → ℕ) → KeysDiffer key → (s : State) (calls : List BuilderCall) (steps : List CoreCall) → Sound key s
-    → AllNamed key steps → Sound key (afterSteps (afterBuilds s calls) steps)
-sound-run key differ s calls steps sound = sound-steps key differ steps (afterBuilds s calls) (sound-builds key s calls sound)
+pub sound-run : (key : ℕ → ℕ) → KeysDiffer key → (s : State) (calls : List PolicyCall) (steps : List CoreCall) → Sound key s
+    → AllNamed key steps → Sound key (afterSteps (afterChanges s calls) steps)
+sound-run key differ s calls steps sound = sound-steps key differ steps (afterChanges s calls) (sound-changes key s calls sound)
 
 -- a list of core steps leaves the policy
 pub steps-policy : (steps : List CoreCall) (s : State) → afterSteps s steps .policy ≡ s .policy

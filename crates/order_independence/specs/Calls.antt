@@ -9,8 +9,7 @@ use Rattle.stage2_range.specs.declared.Stage2Result.{Stage2Result}
 use Rattle.stage2_range.specs.Ranges.{resultNumber}
 use Rattle.stage2.specs.declared.Policy.{Policy}
 use Rattle.stage2.specs.Policy.{freshPolicy}
-use Rattle.stage2.specs.Builds.{BuilderCall, buildAll}
-use Rattle.stage2.specs.Changes as changes
+use Rattle.memory_import.specs.Changes as changes
 use Rattle.simple_map.specs.declared.SimpleMap.{SimpleMap}
 use Rattle.simple_map.specs.declared.SuspendCoreData.{SuspendCoreData}
 use Rattle.simple_map.specs.declared.Insertion.{Insertion}
@@ -137,9 +136,9 @@ call s (change c) =
     record { answer = changed (b .answer); state = withPolicy s (b .policy) }
 call s (core-call c) = coreCall s c
 
--- the state after a list of builder calls
-abbrev pub afterBuilds : State → List BuilderCall → State
-afterBuilds s calls = withPolicy s (buildAll (s .policy) calls)
+-- the state after a list of calls that change the policy
+abbrev pub afterChanges : State → List changes.PolicyCall → State
+afterChanges s calls = withPolicy s (changes.changeAll (s .policy) calls)
 
 -- the state after a list of core steps: "Each call gets the state that the last one handed back"
 abbrev pub afterSteps : State → List CoreCall → State

@@ -5,17 +5,18 @@ use mathlib.Core.List.{List, List·Memᴰ, List·Permᴰ}
 use lib.ListN.{length}
 use Rattle.lists.specs.Lists.{select}
 use Rattle.stage2.specs.declared.Policy.{Policy}
-use Rattle.stage2.specs.Builds.{BuilderCall, WellFormed}
+use Rattle.stage2.specs.Builds.{WellFormed}
+use Rattle.memory_import.specs.Changes.{PolicyCall, allApart}
 use Rattle.order_independence.specs.Builds.{accepted, AllAccepted, SamePolicy}
 use Rattle.simple_map.specs.Map.{getItem}
 use Rattle.simple_map.specs.Keys.{KeysDiffer, HoldsKeys}
-use Rattle.order_independence.specs.Calls.{State, freshState, CoreCall, Answer, answerNumber, answerValues, AllZero, afterBuilds, afterSteps, answersTo}
+use Rattle.order_independence.specs.Calls.{State, freshState, CoreCall, Answer, answerNumber, answerValues, AllZero, afterChanges, afterSteps, answersTo}
 use Rattle.order_independence.specs.Steps.{isOwn, isAbove, AllNamed, Loads}
 
 -- "Done again": the second run's calls and steps beside the first's, which begins at the policy `p`
-pub record Reordered (key : ℕ → ℕ) (p : Policy) (calls order : List BuilderCall) (steps mixed : List CoreCall) : Type 0 where
-  -- "the builder calls that were accepted, in whatever order"
-  pub same-calls : List·Permᴰ (accepted p calls) order
+pub record Reordered (key : ℕ → ℕ) (p : Policy) (calls order : List PolicyCall) (steps mixed : List CoreCall) : Type 0 where
+  -- "the builder calls that were accepted, in whatever order": those of the second run, imports taken apart
+  pub same-calls : List·Permᴰ (accepted p calls) (allApart order)
   -- "then the same core steps", "each as often"
   pub same-steps : List·Permᴰ steps mixed
   -- "each core's own in its own order, whatever the mixing between cores"
@@ -42,23 +43,23 @@ abbrev pub AboveAnswer10 : State → List CoreCall → Type 0
 AboveAnswer10 s steps = (a : Answer) → List·Memᴰ a (answersTo isAbove s steps) → (answerNumber a ≡ 10) × AllZero (answerValues a)
 
 -- "Found", of the runs from `s` and from `t`
-pub record Found (key : ℕ → ℕ) (s t : State) (calls order : List BuilderCall) (steps mixed : List CoreCall) : Type 0 where
+pub record Found (key : ℕ → ℕ) (s t : State) (calls order : List PolicyCall) (steps mixed : List CoreCall) : Type 0 where
   -- "every builder call accepted again"
   pub accepted-again : AllAccepted (t .policy) order
   -- "and at the end the same .."
-  pub same-end : Same key (afterSteps (afterBuilds s calls) steps) (afterSteps (afterBuilds t order) mixed)
+  pub same-end : Same key (afterSteps (afterChanges s calls) steps) (afterSteps (afterChanges t order) mixed)
   -- "its answers, first with first and so on, each with every result field beside the state"
   pub same-answers : (i : ℕ) → i < 8
-      → answersTo (isOwn key i) (afterBuilds s calls) steps ≡ answersTo (isOwn key i) (afterBuilds t order) mixed
-  pub above-10 : AboveAnswer10 (afterBuilds s calls) steps
-  pub above-10-again : AboveAnswer10 (afterBuilds t order) mixed
+      → answersTo (isOwn key i) (afterChanges s calls) steps ≡ answersTo (isOwn key i) (afterChanges t order) mixed
+  pub above-10 : AboveAnswer10 (afterChanges s calls) steps
+  pub above-10-again : AboveAnswer10 (afterChanges t order) mixed
 
--- the claim, for runs from `s` and from `t`: builder calls, then core steps
+-- the claim, for runs from `s` and from `t`: calls that change the policy, builder calls and imports, then core steps
 abbrev pub OrderIndependentFrom : (ℕ → ℕ) → State → State → Type 0
 OrderIndependentFrom key s t =
-    (calls order : List BuilderCall) (steps mixed : List CoreCall)
+    (calls order : List PolicyCall) (steps mixed : List CoreCall)
     → Reordered key (s .policy) calls order steps mixed
-    → Separate key (afterBuilds s calls) steps
+    → Separate key (afterChanges s calls) steps
     → Found key s t calls order steps mixed
 
 -- demand 3: both runs "from fresh"

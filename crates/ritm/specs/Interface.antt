@@ -15,6 +15,7 @@ use Rattle.lent_reply.specs.LentReply.{valuesSize}
 unfoldable pub use Rattle.lent_reply.specs.LentReply.{replyCall}
 unfoldable pub use Rattle.lent_map.specs.Calls.{insertCall, getCall, removeCall}
 unfoldable pub use Rattle.lent_policy.specs.Calls.{allowCall, handleCall, findCall}
+unfoldable pub use Rattle.lent_import.specs.Calls.{importCall}
 use Rattle.lent_policy.specs.Layout.{policySize}
 use Rattle.lent_cores.specs.Layout.{coresSize, registersSize, trapResultSize}
 use Rattle.lent_map.specs.Layout.{mapSize}

@@ -9,7 +9,7 @@ ghost use Rattle.lent_cores.specs.Layout.{coresAt, counterAt, coresSize};
 ghost use Rattle.lent_map.specs.Layout.{mapAt, mapSize};
 ghost use Rattle.simple_map.specs.Map.{emptyMap};
 ghost use Rattle.stage2.specs.Policy.{freshPolicy};
-ghost use Rattle.ritm.specs.Interface.{Leaves, allowCall, handleCall, findCall, saveCall, replyCall, trapRegisters, trapCall, readCall, writeCall, insertCall, getCall, removeCall, decodeCall, extendCall, alignDownCall, alignUpCall, bufferSize};
+ghost use Rattle.ritm.specs.Interface.{Leaves, allowCall, handleCall, importCall, findCall, saveCall, replyCall, trapRegisters, trapCall, readCall, writeCall, insertCall, getCall, removeCall, decodeCall, extendCall, alignDownCall, alignUpCall, bufferSize};
 use data_abort::TrapRegisters;
 use lent_cores::CORES_SIZE;
 use lent_cores::REGISTERS_SIZE;
@@ -79,6 +79,18 @@ pub extern "C" fn ritm_handle_range(
     ensures { λ r. ⌜ Leaves (handleCall (now (policy .entry)) «base_ipa» size read write) r (now (policy .exit)) [] ⌝ }
 {
     lent_policy::handle_range(policy, base_ipa, size, read, write)
+}
+
+// Allows the memory that a board's devicetree describes, all of it or none: refusals 21, 22, then 1 to 7 of the first pair that is refused.
+#[no_mangle]
+pub extern "C" fn ritm_import_memory(
+    policy: &mut [u8; POLICY_SIZE],
+    blob: &[u8],
+    attributes: u64,
+) -> u64
+    ensures { λ r. ⌜ Leaves (importCall (now (policy .entry)) (now (blob .entry)) attributes) r (now (policy .exit)) [] ⌝ }
+{
+    lent_import::import_memory(policy, blob, attributes)
 }
 
 // The first region held that has the address: whether there is one, its place and the offset in it.

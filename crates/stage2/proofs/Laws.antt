@@ -7,10 +7,10 @@ use borrow.Author.Tests.{lt-leb, leb-false, not-false}
 use Rattle.lists.specs.Refusals.{firstMet}
 use Rattle.stage2_range.specs.declared.Stage2Result.{Stage2Result}
 use Rattle.stage2_range.specs.declared.Stage2Result.the-variants.{Accepted, Refused}
-use Rattle.stage2_range.specs.Ranges.{answerOf, rangeCases, validateRange, pageRange, rangeOf, rangeBytes, errorNumber, resultNumber}
+use Rattle.stage2_range.specs.Ranges.{after, answerOf, rangeCases, validateRange, pageRange, rangeOf, rangeBytes, errorNumber, resultNumber}
 use Rattle.stage2_range.specs.Handlers.{isHandler}
 use Rattle.stage2_range.specs.Registry.{regionOf, regionBytes}
-use Rattle.stage2_range.proofs.Ranges.{after, not-after, answer-number, answer-after, accepted-unmet, accepted-valid, valid-accepted, overlaps-none, none-overlaps}
+use Rattle.stage2_range.proofs.Ranges.{not-after, answer-number, answer-after, accepted-unmet, accepted-valid, valid-accepted, overlaps-none, none-overlaps}
 use Rattle.stage2.specs.declared.Policy.{Policy}
 use Rattle.stage2.specs.Policy.{allowedHeld, regionsHeld, builtBy, allowCases, allowAnswer, addAllowed, allowRange, halfCases, handleCases, handleAnswer, addRegion, handleRange}
 use Rattle.stage2.specs.Builds.{BuilderCall, allow, handle, build, CanAllow, CanHandle}

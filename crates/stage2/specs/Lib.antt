@@ -1,4 +1,3 @@
 -- What the contracts of `stage2` cite.
 pub mod Policy
 pub mod Builds
-pub mod Changes

@@ -13,11 +13,11 @@ use Rattle.lists.specs.Refusals.{Case, firstMet}
 use Rattle.lists.proofs.Laws.{FirstLeft, first-here, first-later, first-none, any-none, none-any, both-true, cond-map, met, met-map, met-append}
 use Rattle.lists.proofs.Every.{Every, all-every}
 use Rattle.stage2_range.specs.declared.Stage2ConfigError.{Stage2ConfigError}
-use Rattle.stage2_range.specs.declared.Stage2ConfigError.the-variants.{RangeBaseNotPageAligned, EmptyRange, RangeSizeNotPageMultiple, RangeEndOverflow, TooManyAllowedRanges, AllowedRangeOverlap, AllowedRangeOverlapsMemoryAccessHandler, TooManyMemoryAccessHandlerRegions, MemoryAccessHandlerRangeOverlap, UnknownMemoryHandler}
+use Rattle.stage2_range.specs.declared.Stage2ConfigError.the-variants.{RangeBaseNotPageAligned, EmptyRange, RangeSizeNotPageMultiple, RangeEndOverflow, TooManyAllowedRanges, AllowedRangeOverlap, AllowedRangeOverlapsMemoryAccessHandler, TooManyMemoryAccessHandlerRegions, MemoryAccessHandlerRangeOverlap, UnknownMemoryHandler, InvalidDevicetree, UnsupportedCellCounts}
 use Rattle.stage2_range.specs.declared.Stage2Result.{Stage2Result}
 use Rattle.stage2_range.specs.declared.Stage2Result.the-variants.{Accepted, Refused}
 use Rattle.stage2_range.specs.declared.PageRange.{PageRange}
-use Rattle.stage2_range.specs.Ranges.{largestEnd, answerOf, rangeCases, validateRange, ValidRange, errorNumber, resultNumber, pageRange, hasByte, sharesByte, overlaps, alignDown, alignUp, alignedNumber}
+use Rattle.stage2_range.specs.Ranges.{after, largestEnd, answerOf, rangeCases, validateRange, ValidRange, errorNumber, resultNumber, pageRange, hasByte, sharesByte, overlaps, alignDown, alignUp, alignedNumber}
 
 -- two tests that imply each other are equal
 test-ext : (t u : Bool) → (t ≡ true → u ≡ true) → (u ≡ true → t ≡ true) → t ≡ u
@@ -193,11 +193,6 @@ module _ {A : Type 0} (bytesOf : A → PageRange) (bytes : PageRange) where
 pub not-accepted : (e : Stage2ConfigError) → Refused e ≡ Accepted → ⊥
 not-accepted e h = let z : _≡_ {A = ℕ} 0 1 = cc in omega arith
 
--- the first refusal, or else what follows it
-abbrev pub after : Stage2Result → Stage2Result → Stage2Result
-after Accepted rest = rest
-after (Refused e) rest = Refused e
-
 -- where neither of two answers is a refusal, each accepts
 pub not-after : (first rest : Stage2Result) → after first rest ≡ Accepted → (first ≡ Accepted) × (rest ≡ Accepted)
 not-after Accepted rest h = (refl, h)
@@ -256,6 +251,8 @@ error-not-zero AllowedRangeOverlapsMemoryAccessHandler h = omega arith
 error-not-zero TooManyMemoryAccessHandlerRegions h = omega arith
 error-not-zero MemoryAccessHandlerRangeOverlap h = omega arith
 error-not-zero UnknownMemoryHandler h = omega arith
+error-not-zero InvalidDevicetree h = omega arith
+error-not-zero UnsupportedCellCounts h = omega arith
 
 -- so an answer with the number 0 accepts
 pub zero-accepted : (s : Stage2Result) → resultNumber s ≡ 0 → s ≡ Accepted

@@ -7,7 +7,7 @@ use lib.Dec.{ltb, leb, eqb}
 use Rattle.lists.specs.Lists.{anyOf}
 use Rattle.lists.specs.Refusals.{Case, case, firstMet}
 use Rattle.stage2_range.specs.declared.Stage2ConfigError.{Stage2ConfigError}
-use Rattle.stage2_range.specs.declared.Stage2ConfigError.the-variants.{RangeBaseNotPageAligned, EmptyRange, RangeSizeNotPageMultiple, RangeEndOverflow, TooManyAllowedRanges, AllowedRangeOverlap, AllowedRangeOverlapsMemoryAccessHandler, TooManyMemoryAccessHandlerRegions, MemoryAccessHandlerRangeOverlap, UnknownMemoryHandler}
+use Rattle.stage2_range.specs.declared.Stage2ConfigError.the-variants.{RangeBaseNotPageAligned, EmptyRange, RangeSizeNotPageMultiple, RangeEndOverflow, TooManyAllowedRanges, AllowedRangeOverlap, AllowedRangeOverlapsMemoryAccessHandler, TooManyMemoryAccessHandlerRegions, MemoryAccessHandlerRangeOverlap, UnknownMemoryHandler, InvalidDevicetree, UnsupportedCellCounts}
 use Rattle.stage2_range.specs.declared.Stage2Result.{Stage2Result}
 use Rattle.stage2_range.specs.declared.Stage2Result.the-variants.{Accepted, Refused}
 use Rattle.stage2_range.specs.declared.PageRange.{PageRange}
@@ -100,6 +100,13 @@ errorNumber AllowedRangeOverlapsMemoryAccessHandler = 7
 errorNumber TooManyMemoryAccessHandlerRegions = 8
 errorNumber MemoryAccessHandlerRangeOverlap = 9
 errorNumber UnknownMemoryHandler = 20
+errorNumber InvalidDevicetree = 21
+errorNumber UnsupportedCellCounts = 22
+
+-- an answer, and where it accepts that of what comes after
+abbrev pub after : Stage2Result → Stage2Result → Stage2Result
+after Accepted rest = rest
+after (Refused e) rest = Refused e
 
 -- the number of an answer: 0 where it is accepted
 abbrev pub resultNumber : Stage2Result → ℕ

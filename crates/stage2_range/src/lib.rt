@@ -15,7 +15,8 @@ pub const MAX_MEMORY_ACCESS_HANDLERS: u64 = 16;
 // The most allowed ranges that a policy holds.
 pub const MAX_ALLOWED_RANGES: u64 = 32;
 
-// Why a range is refused. (The last is ours: handlers are named by numbers, where RITM has functions.)
+// Why a call that changes the policy is refused. (The last three are ours: handlers are named by numbers, where RITM has functions, and
+// memory is read from a devicetree.)
 pub enum Stage2ConfigError {
     RangeBaseNotPageAligned,
     EmptyRange,
@@ -27,6 +28,8 @@ pub enum Stage2ConfigError {
     TooManyMemoryAccessHandlerRegions,
     MemoryAccessHandlerRangeOverlap,
     UnknownMemoryHandler,
+    InvalidDevicetree,
+    UnsupportedCellCounts,
 }
 
 // RITM's `Result<(), Stage2ConfigError>`.
@@ -137,6 +140,8 @@ impl Stage2ConfigError {
             Stage2ConfigError::TooManyMemoryAccessHandlerRegions => 8,
             Stage2ConfigError::MemoryAccessHandlerRangeOverlap => 9,
             Stage2ConfigError::UnknownMemoryHandler => 20,
+            Stage2ConfigError::InvalidDevicetree => 21,
+            Stage2ConfigError::UnsupportedCellCounts => 22,
         }
     }
 }

@@ -1,0 +1,2 @@
+-- What the contracts of `lent_import` cite.
+pub mod Calls

@@ -1,0 +1,118 @@
+-- Laws on lists of builder calls, and on the calls that change a policy. Assumes nothing.
+use Prim.Native.Nat.{ℕ}
+use mathlib.Core.Path.{_≡_, refl, sym, _∙_, ap}
+use mathlib.Core.List.{List, [], _∷_, _++_}
+use Rattle.fdt_tokens.specs.Devicetree.{Answer, invalid, unsupported, pairs}
+use Rattle.fdt.specs.Blob.{answerOf}
+use Rattle.stage2_range.specs.declared.Stage2ConfigError.{Stage2ConfigError}
+use Rattle.stage2_range.specs.declared.Stage2Result.{Stage2Result}
+use Rattle.stage2_range.specs.declared.Stage2Result.the-variants.{Accepted, Refused}
+use Rattle.stage2_range.specs.Ranges.{after, resultNumber}
+use Rattle.stage2_range.proofs.Ranges.{not-after, not-accepted}
+use Rattle.stage2.specs.declared.Policy.{Policy}
+use Rattle.stage2.specs.Policy.{freshPolicy, builtBy}
+use Rattle.stage2.specs.Builds.{BuilderCall, build, buildAll, WellFormed}
+use Rattle.stage2.proofs.Laws.{built-answer, built-refused, build-refused}
+use Rattle.stage2.proofs.WellFormed.{build-keeps, build-all-keeps, fresh-well-formed}
+use Rattle.memory_import.specs.Import.{allowCalls, readingOf, pairsIn, reading, importCalls, answerOfAll, importAnswer, importMemory}
+use Rattle.memory_import.specs.Changes.{PolicyCall, builder, import-memory, change, changeAll, takenApart, readFirst}
+
+-- one list of builder calls after another
+pub build-append : (a b : List BuilderCall) (p : Policy) → buildAll p (a ++ b) ≡ buildAll (buildAll p a) b
+build-append [] b p = refl
+build-append (c ∷ cs) b p = build-append cs b (build p c .policy)
+
+-- "A refusal returns its number .., and all state is as before"
+pub change-refused : (p : Policy) (c : PolicyCall) → (resultNumber (change p c .answer) ≡ 0 → ⊥) → change p c .policy ≡ p
+unfolding importMemory
+change-refused p (builder c) h = build-refused p c h
+change-refused p (import-memory blob attributes) h =
+    built-refused (importAnswer p blob attributes) p (buildAll p (importCalls blob attributes)) h
+
+-- each call keeps a policy well formed
+pub change-keeps : (p : Policy) (c : PolicyCall) → WellFormed p → WellFormed (change p c .policy)
+unfolding importMemory
+change-keeps p (builder c) w = build-keeps p c w
+change-keeps p (import-memory blob attributes) w = go (importAnswer p blob attributes)
+  where
+    go : (s : Stage2Result) → WellFormed (builtBy s p (buildAll p (importCalls blob attributes)) .policy)
+    go Accepted = build-all-keeps p (importCalls blob attributes) w
+    go (Refused e) = w
+
+-- so does a list of them
+pub change-all-keeps : (p : Policy) (calls : List PolicyCall) → WellFormed p → WellFormed (changeAll p calls)
+change-all-keeps p [] w = w
+change-all-keeps p (c ∷ cs) w = change-all-keeps (change p c .policy) cs (change-keeps p c w)
+
+-- and from fresh every policy is well formed
+pub changed-well-formed : (calls : List PolicyCall) → WellFormed (changeAll freshPolicy calls)
+changed-well-formed calls = change-all-keeps freshPolicy calls fresh-well-formed
+
+-- one list of calls after another
+pub change-append : (a b : List PolicyCall) (p : Policy) → changeAll p (a ++ b) ≡ changeAll (changeAll p a) b
+change-append [] b p = refl
+change-append (c ∷ cs) b p = change-append cs b (change p c .policy)
+
+-- every builder call of a list is accepted, each made on the policy that the last one left
+abbrev pub AllBuilt : Policy → List BuilderCall → Type 0
+AllBuilt p [] = Unit {0}
+AllBuilt p (c ∷ cs) = (build p c .answer ≡ Accepted) × AllBuilt (build p c .policy) cs
+
+-- two lists of calls are all accepted one after the other
+pub all-append : (a b : List BuilderCall) (p : Policy) → AllBuilt p a → AllBuilt (buildAll p a) b → AllBuilt p (a ++ b)
+all-append [] b p h k = k
+all-append (c ∷ cs) b p h k = (h .0, all-append cs b (build p c .policy) (h .1) k)
+
+-- and where both together are, each is
+pub all-parts : (a b : List BuilderCall) (p : Policy) → AllBuilt p (a ++ b) → AllBuilt p a × AllBuilt (buildAll p a) b
+all-parts [] b p h = (tt, h)
+all-parts (c ∷ cs) b p h =
+    let r = all-parts cs b (build p c .policy) (h .1) in
+    ((h .0, r .0), r .1)
+
+-- no call of a list is refused exactly where all are accepted
+none-refused : (calls : List BuilderCall) (p : Policy) → answerOfAll p calls ≡ Accepted → AllBuilt p calls
+none-refused [] p h = tt
+none-refused (c ∷ cs) p h =
+    let k = not-after (build p c .answer) (answerOfAll (build p c .policy) cs) h in
+    (k .0, none-refused cs (build p c .policy) (k .1))
+
+all-accepted : (calls : List BuilderCall) (p : Policy) → AllBuilt p calls → answerOfAll p calls ≡ Accepted
+all-accepted [] p h = refl
+all-accepted (c ∷ cs) p h = rw (h .0) (all-accepted cs (build p c .policy) (h .1))
+
+-- a slice that the reader refuses stands for no call
+refused-none : (blob : List ℕ) (attributes : ℕ) (e : Stage2ConfigError) → reading blob ≡ Refused e → importCalls blob attributes ≡ []
+unfolding reading importCalls
+refused-none blob attributes e h = go (answerOf blob) h
+  where
+    go : (a : Answer) → readingOf a ≡ Refused e → allowCalls attributes (pairsIn a) ≡ []
+    go invalid k = refl
+    go unsupported k = refl
+    go (pairs ps) k = absurd (not-accepted e (sym k))
+
+-- A call that is accepted is its builder calls, made one by one, and each of them is accepted.
+pub accepted-apart : (p : Policy) (c : PolicyCall) → change p c .answer ≡ Accepted
+    → AllBuilt p (takenApart c) × (change p c .policy ≡ buildAll p (takenApart c))
+unfolding importMemory importAnswer
+accepted-apart p (builder c) h = ((h, tt), refl)
+accepted-apart p (import-memory blob attributes) h =
+    let calls = importCalls blob attributes in
+    let e : importAnswer p blob attributes ≡ Accepted = sym (built-answer (importAnswer p blob attributes) p (buildAll p calls)) ∙ h in
+    (none-refused calls p (not-after (reading blob) (answerOfAll p calls) e .1), ap (λ s. builtBy s p (buildAll p calls) .policy) e)
+
+-- A call whose builder calls are all accepted answers what is said of it before the policy is asked, and is those calls.
+pub apart-accepted : (p : Policy) (c : PolicyCall) → AllBuilt p (takenApart c)
+    → (change p c .answer ≡ readFirst c) × (change p c .policy ≡ buildAll p (takenApart c))
+unfolding importMemory importAnswer
+apart-accepted p (builder c) h = (h .0, refl)
+apart-accepted p (import-memory blob attributes) h = go (reading blob) refl
+  where
+    calls : List BuilderCall
+    calls = importCalls blob attributes
+
+    go : (r : Stage2Result) → reading blob ≡ r
+        → (builtBy (after r (answerOfAll p calls)) p (buildAll p calls) .answer ≡ r)
+        × (builtBy (after r (answerOfAll p calls)) p (buildAll p calls) .policy ≡ buildAll p calls)
+    go Accepted e = rw (all-accepted calls p h) (refl, refl)
+    go (Refused x) e = (refl, rw (refused-none blob attributes x e))
