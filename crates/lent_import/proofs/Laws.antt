@@ -9,27 +9,30 @@ use Rattle.fdt.specs.declared.Cursor.{Cursor}
 use Rattle.fdt.specs.declared.Memory.{Memory}
 use Rattle.fdt.specs.declared.Memory.the-variants.{Invalid, Pairs}
 use Rattle.fdt.specs.declared.Memory.the-variants as memory
-use Rattle.fdt.specs.Blob.{memoryOf, pairsLeft}
+use Rattle.fdt.specs.Blob.{memoryOf, pairsLeft, answerOf}
 use Rattle.stage2_range.specs.declared.Stage2ConfigError.{Stage2ConfigError}
 use Rattle.stage2_range.specs.declared.Stage2ConfigError.the-variants.{InvalidDevicetree, UnsupportedCellCounts}
 use Rattle.stage2_range.specs.declared.Stage2Result.{Stage2Result}
 use Rattle.stage2_range.specs.declared.Stage2Result.the-variants.{Accepted, Refused}
 use Rattle.stage2_range.specs.Ranges.{after, errorNumber, resultNumber}
-use Rattle.stage2_range.proofs.Ranges.{error-not-zero, zero-accepted}
+use Rattle.stage2_range.proofs.Ranges.{not-after, error-not-zero, zero-accepted}
+use Rattle.lists.proofs.Every.{Every}
 use Rattle.stage2.specs.declared.Policy.{Policy}
 use Rattle.stage2.specs.declared.Built.{Built}
 use Rattle.stage2.specs.Policy.{builtBy, allowRange}
 use Rattle.stage2.specs.Builds.{BuilderCall, buildAll}
-use Rattle.memory_import.specs.Import.{allowCalls, answerOfAll, importMemory}
+use Rattle.memory_import.specs.Import.{allowCalls, pairsIn, reading, importCalls, answerOfAll, importAnswer, importMemory}
 use Rattle.memory_import.proofs.Laws.{allOrNone, import-invalid, import-unsupported, import-pairs}
-use Rattle.lent_words.specs.Words.{FitsWord, Lent, Left, unlessRefused}
+use Rattle.lent_words.specs.Words.{FitsWord, Bytes, Lent, Left, unlessRefused}
 use Rattle.lent_words.proofs.Words.{length-each}
 use Rattle.lent_words.proofs.Left.{when-accepted, when-refused}
 use Rattle.lent_policy.specs.Layout.{policySize, rangeAt, policyAt, withAllowedOf}
 use Rattle.lent_policy.specs.Calls.{allowCall}
 use Rattle.lent_policy.proofs.InPlace.{allowed-again, allowed-rewritten}
 use Rattle.lent_import.specs.Calls.{callsNumber, callsBytes, callsLeave, importCall}
-use Rattle.lent_import.proofs.Held.{allow-held, allow-lent}
+use Rattle.lent_import.proofs.Held.{left-lent, allow-held, allow-lent}
+use Rattle.lent_import.proofs.Fits.{PairFits, pairs-fit}
+use Rattle.lent_policy.proofs.States.{allowed-lent}
 
 -- from the bytes `b` on the calls left come to what all calls come to from the bytes `first`
 pub record Allowing (first : List ℕ) (all : List BuilderCall) (b : List ℕ) (calls : List BuilderCall) : Type 0 where
@@ -76,9 +79,10 @@ module _ (attributes : ℕ) (l : List Pair) (found : Bool) (x : Pair) (later : L
 
   pub none-left : found ≡ false → (0 ≡ callsNumber first all) × (b ≡ callsBytes first all)
   none-left h =
-      let n : l ≡ [] = e ∙ ap (λ t. cond t (x ∷ later) []) h in
-      (ap resultNumber (ap (λ m. answerOfAll (policyAt b) (allowCalls attributes m)) (sym n) ∙ inv .answer),
-      inv .bytes ∙ ap (withAllowedOf first) (ap (λ m. buildAll (policyAt b) (allowCalls attributes m)) (sym n) ∙ inv .policy))
+      let n : l ≡ [] = e ∙ ap (λ t. cond t (x ∷ later) []) h in (
+        ap resultNumber (ap (λ m. answerOfAll (policyAt b) (allowCalls attributes m)) (sym n) ∙ inv .answer),
+        inv .bytes ∙ ap (withAllowedOf first) (ap (λ m. buildAll (policyAt b) (allowCalls attributes m)) (sym n) ∙ inv .policy),
+      )
 
   some : found ≡ true → l ≡ x ∷ later
   some h = e ∙ ap (λ t. cond t (x ∷ later) []) h
@@ -151,3 +155,45 @@ module _ (b blob : List ℕ) (attributes : ℕ) {m : Memory} (told : m ≡ memor
           let none = error-not-zero x in
           ap (λ s. record { number = errorNumber x; state = s; result = [] })
           (when-refused (errorNumber x) b (callsBytes b calls) none ∙ sym (when-refused (errorNumber x) b (withAllowedOf b (policyAt b)) none))
+
+-- the policy that the bytes hold after all of some calls is the one that the calls hand back
+all-held : {first : List ℕ} {all : List BuilderCall} (attributes : ℕ) (ps : List Pair) (b : List ℕ) → FitsWord attributes → Every PairFits ps
+    → Allowing first all b (allowCalls attributes ps) → answerOfAll (policyAt b) (allowCalls attributes ps) ≡ Accepted
+    → policyAt (callsBytes first all) ≡ buildAll (policyAt first) all
+all-held {first = first} attributes [] b fa fits inv h =
+    ap (λ p. policyAt (withAllowedOf first p)) (sym (inv .policy)) ∙ (ap policyAt (sym (inv .bytes)) ∙ inv .policy)
+all-held attributes (x ∷ xs) b fa fits inv h =
+    let built = allowRange (policyAt b) (x .base) (x .size) attributes in
+    let a = not-after (built .answer) (answerOfAll (built .policy) (allowCalls attributes xs)) h in
+    let next = one-allowed attributes (x ∷ xs) true x xs refl inv refl (fits .0 .0) (fits .0 .1) fa
+    (call-number b (x .base) (x .size) attributes ∙ ap resultNumber (a .0)) in
+    let held = allow-held b (x .base) (x .size) attributes (inv .lent) (fits .0 .0) (fits .0 .1) fa in
+    all-held attributes xs (allowCall b (x .base) (x .size) attributes .state) fa (fits .1) next
+    (ap (λ p. answerOfAll p (allowCalls attributes xs)) held ∙ a .1)
+
+-- `ritm_import_memory`
+pub import-held : (b blob : List ℕ) (attributes : ℕ) → Lent policySize b → Bytes blob → FitsWord attributes
+    → policyAt (importCall b blob attributes .state) ≡ importMemory (policyAt b) blob attributes .policy
+unfolding importCall importMemory importAnswer importCalls
+import-held b blob attributes lent bytes f = go (importAnswer p blob attributes) refl
+  where
+    p : Policy
+    p = policyAt b
+
+    calls : List BuilderCall
+    calls = importCalls blob attributes
+
+    go : (answer : Stage2Result) → importAnswer p blob attributes ≡ answer →
+        let built = builtBy answer p (buildAll p calls) in
+        policyAt (unlessRefused (resultNumber (built .answer)) b (withAllowedOf b (built .policy))) ≡ built .policy
+    go (Refused e) q = ap policyAt (when-refused (errorNumber e) b (withAllowedOf b p) (error-not-zero e))
+    go Accepted q =
+        all-held attributes (pairsIn (answerOf blob)) b f (pairs-fit blob bytes) (allow-start b calls lent)
+        (not-after (reading blob) (answerOfAll p calls) q .1)
+
+pub import-lent : (b blob : List ℕ) (attributes : ℕ) → Lent policySize b → Lent policySize (importCall b blob attributes .state)
+unfolding importCall
+import-lent b blob attributes h =
+    let built = importMemory (policyAt b) blob attributes in
+    left-lent (resultNumber (built .answer)) b (withAllowedOf b (built .policy)) h
+    (allowed-lent b (built .policy .allowed) (built .policy .«allowed_count») h)

@@ -11,12 +11,7 @@ use lent_policy::POLICY_SIZE;
 use stage2_range::Stage2ConfigError;
 
 // The calls of all pairs from a place on, one by one, up to the first that is refused.
-fn allow_pairs(
-    policy: &mut [u8; POLICY_SIZE],
-    blob: &[u8],
-    first: Cursor,
-    attributes: u64,
-) -> u64
+fn allow_pairs(policy: &mut [u8; POLICY_SIZE], blob: &[u8], first: Cursor, attributes: u64) -> u64
     ensures { λ r. ⌜ (r ≡ callsNumber (now (policy .entry)) (allowCalls attributes (pairsLeft (now (blob .entry)) first)))
         × (r ≡ 0 → now (policy .exit) ≡ callsBytes (now (policy .entry)) (allowCalls attributes (pairsLeft (now (blob .entry)) first))) ⌝ }
 {

@@ -31,11 +31,13 @@ use Rattle.lent_cores.proofs.Records.{core-lent, counter-lent}
 use Rattle.lent_cores.proofs.States.{fresh-cores, fresh-counter}
 use Rattle.lent_map.specs.Layout.{mapAt, withPlaces, mapSize}
 use Rattle.lent_map.proofs.States.{fresh-map, places-lent}
-use Rattle.ritm.specs.Interface.{unlessRefused, allowCall, handleCall, saveCall, trapCall, replyCall, writeCall, insertCall, getCall, removeCall}
+use Rattle.ritm.specs.Interface.{unlessRefused, allowCall, handleCall, importCall, saveCall, trapCall, replyCall, writeCall, insertCall, getCall, removeCall}
 use Rattle.order_independence.specs.Calls.{State, freshState, answerNumber, answerValues, call, callAll}
 use Rattle.order_independence.proofs.Calls.{refusal-keeps}
-use Rattle.lent_states.specs.LentStates.{Buffers, stateIn, Entry, ritm-allow-range, ritm-handle-range, ritm-save, ritm-trap, ritm-reply, ritm-write-gpr, ritm-insert, ritm-get, ritm-remove, left, withPolicyBytes, withCoreBytes, withMapBytes, afterCall, afterAll, hostCall, Typed, AllTyped, Sized}
-use Rattle.lent_states.proofs.Policies.{allow-held, handle-held}
+use Rattle.lent_states.specs.LentStates.{Buffers, stateIn, Entry, ritm-allow-range, ritm-handle-range, ritm-import-memory, ritm-save, ritm-trap, ritm-reply, ritm-write-gpr, ritm-insert, ritm-get, ritm-remove, left, withPolicyBytes, withCoreBytes, withMapBytes, afterCall, afterAll, hostCall, Typed, AllTyped, Sized}
+use Rattle.lent_import.proofs.Held.{left-lent, allow-held, allow-lent}
+use Rattle.lent_import.proofs.Laws.{import-held, import-lent}
+use Rattle.lent_states.proofs.Policies.{handle-held}
 use Rattle.lent_states.proofs.Maps.{insert-held, remove-held}
 use Rattle.hypervisor.proofs.InWords.{in-saved}
 use Rattle.forwarded_call.proofs.Laws.{in-replied}
@@ -78,6 +80,8 @@ module _ (b : Buffers) (sized : Sized b) where
       policy-held _ _ (allow-held (b .policy) base size attributes (sized .policy) (t .0) (t .1) (t .2))
   held-state (ritm-handle-range base size read write) t =
       policy-held _ _ (handle-held (b .policy) base size read write (sized .policy) (t .0) (t .1))
+  held-state (ritm-import-memory blob attributes) t =
+      policy-held _ _ (import-held (b .policy) blob attributes (sized .policy) (t .0) (t .1))
   held-state (ritm-save core registers) t =
       let x = wordsAt registers 0 31 in
       let elr = wordAt registers elrWord in
@@ -109,9 +113,10 @@ module _ (b : Buffers) (sized : Sized b) where
 
 -- The number that a call returns is that of the host's call.
 pub same-number : (b : Buffers) (e : Entry) → Typed e → left b e .number ≡ answerNumber (call (stateIn b) (hostCall e) .answer)
-unfolding allowCall handleCall saveCall replyCall steppedCore trapCall writeCall insertCall getCall removeCall
+unfolding allowCall handleCall importCall saveCall replyCall steppedCore trapCall writeCall insertCall getCall removeCall
 same-number b (ritm-allow-range base size attributes) t = refl
 same-number b (ritm-handle-range base size read write) t = refl
+same-number b (ritm-import-memory blob attributes) t = refl
 same-number b (ritm-save core registers) t = refl
 same-number b (ritm-trap core registers) t = refl
 same-number b (ritm-reply core kind values error) t = refl
@@ -122,9 +127,10 @@ same-number b (ritm-remove key) t = refl
 
 -- Its result holds the result fields of the host's answer.
 pub same-result : (b : Buffers) (e : Entry) → left b e .result ≡ bytesOf (answerValues (call (stateIn b) (hostCall e) .answer))
-unfolding allowCall handleCall saveCall replyCall steppedCore trapCall writeCall insertCall getCall removeCall
+unfolding allowCall handleCall importCall saveCall replyCall steppedCore trapCall writeCall insertCall getCall removeCall
 same-result b (ritm-allow-range base size attributes) = refl
 same-result b (ritm-handle-range base size read write) = refl
+same-result b (ritm-import-memory blob attributes) = refl
 same-result b (ritm-save core registers) = refl
 same-result b (ritm-trap core registers) = refl
 same-result b (ritm-reply core kind values error) = refl
@@ -134,9 +140,6 @@ same-result b (ritm-get key) = refl
 same-result b (ritm-remove key) = refl
 
 -- Bytes that a call leaves are lent bytes.
-left-lent : {n : ℕ} (number : ℕ) (b next : List ℕ) → Lent n b → Lent n next → Lent n (unlessRefused number b next)
-left-lent {n} number b next h k = cond-all (Lent n) (eqb number 0) next b k h
-
 stepped-lent : (b : List ℕ) (i : ℕ) (step : CoresStep) → Lent coresSize b → Lent coresSize (steppedCore b i step .state)
 unfolding steppedCore
 stepped-lent b i step h =
@@ -155,14 +158,6 @@ trapped-lent p b i trap h =
     let t = trapOn (policyAt p) (coresAt b) (counterAt b) i trap in
     let core = coreOf (t .cores) i in
     left-lent (trapNumber (t .result .answer)) b (withCounter (withCore b i core) (t .counter)) h (counter-lent (withCore b i core) (t .counter) (core-lent b i core h))
-
-allow-lent : (b : List ℕ) (base size attributes : ℕ) → Lent policySize b → Lent policySize (allowCall b base size attributes .state)
-unfolding allowCall
-allow-lent b base size attributes h =
-    let built = allowRange (policyAt b) base size attributes in
-    let ranges = built .policy .allowed in
-    let n = built .policy .«allowed_count» in
-    left-lent (resultNumber (built .answer)) b (withAllowed b ranges n) h (allowed-lent b ranges n h)
 
 handle-lent : (b : List ℕ) (base size read write : ℕ) → Lent policySize b → Lent policySize (handleCall b base size read write .state)
 unfolding handleCall
@@ -189,6 +184,8 @@ still-sized b s (ritm-allow-range base size attributes) =
     record { policy = allow-lent (b .policy) base size attributes (s .policy); cores = s .cores; map = s .map }
 still-sized b s (ritm-handle-range base size read write) =
     record { policy = handle-lent (b .policy) base size read write (s .policy); cores = s .cores; map = s .map }
+still-sized b s (ritm-import-memory blob attributes) =
+    record { policy = import-lent (b .policy) blob attributes (s .policy); cores = s .cores; map = s .map }
 still-sized b s (ritm-save core registers) = record { policy = s .policy; cores = stepped-lent (b .cores) core _ (s .cores); map = s .map }
 still-sized b s (ritm-trap core registers) =
     record { policy = s .policy; cores = trapped-lent (b .policy) (b .cores) core registers (s .cores); map = s .map }

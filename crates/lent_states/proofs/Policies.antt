@@ -1,31 +1,31 @@
--- Builder calls on lent bytes: the policy that the bytes then hold is the one that the library's call hands back. Assumes nothing.
+-- `handle_range` on lent bytes: the policy that the bytes then hold is the one that the library's call hands back. Assumes nothing.
 use Prim.Native.Nat.{ℕ, _+_, _<_}
 use mathlib.Core.Path.{_≡_, refl, ap, subst, _∙_}
 use mathlib.Core.List.{List}
 use native.Mathlib.Omega.{arith}
 use borrow.Author.Tests.{ne-eqb}
 use lib.Dec.{leb}
-use lib.ListN.{length, set, take, drop, length-set, take-append-drop}
+use lib.ListN.{length, take, drop, take-append-drop}
 use Rattle.lent_words.specs.Words.{FitsWord, Lent}
 use Rattle.lent_words.proofs.Words.{length-each}
 use Rattle.lent_words.proofs.RoundTrip.{Every}
-use Rattle.lent_words.proofs.Every.{every-each, every-append, every-take, every-drop, every-set, every-insert}
+use Rattle.lent_words.proofs.Every.{every-each, every-append, every-take, every-drop, every-insert}
 use Rattle.stage2_range.specs.declared.Stage2Result.{Stage2Result}
 use Rattle.stage2_range.specs.declared.Stage2Result.the-variants.{Accepted, Refused}
 use Rattle.stage2_range.specs.declared.MemoryAccessRegion.{MemoryAccessRegion}
-use Rattle.stage2_range.specs.Ranges.{rangeOf, errorNumber, resultNumber}
+use Rattle.stage2_range.specs.Ranges.{errorNumber, resultNumber}
 use Rattle.stage2_range.specs.Registry.{regionOf, insertRegion}
 use Rattle.stage2_range.proofs.Registry.{insert-by-base, insert-rest}
 use Rattle.stage2.specs.declared.Policy.{Policy}
-use Rattle.stage2.specs.Policy.{builtBy, allowAnswer, allowRange, handleAnswer, handleRange}
+use Rattle.stage2.specs.Policy.{builtBy, handleAnswer, handleRange}
 use Rattle.stage2.specs.Policy as policy
 use Rattle.stage2.proofs.WellFormed.{inserted-places}
 use Rattle.stage2_range.proofs.Ranges.{error-not-zero}
-use Rattle.stage2.proofs.Laws.{allow-accepted, handle-accepted}
-use Rattle.lent_policy.specs.Layout.{policySize, rangeAt, regionAt, policyAt, withAllowed, withRegions}
-use Rattle.lent_policy.proofs.Records.{RangeFits, RegionFits, asked-range-fits, asked-region-fits, range-fits, region-fits}
-use Rattle.lent_policy.proofs.States.{allowed-back, regions-back}
-use Rattle.ritm.specs.Interface.{unlessRefused, allowCall, handleCall}
+use Rattle.stage2.proofs.Laws.{handle-accepted}
+use Rattle.lent_policy.specs.Layout.{policySize, regionAt, policyAt, withRegions}
+use Rattle.lent_policy.proofs.Records.{RegionFits, asked-region-fits, region-fits}
+use Rattle.lent_policy.proofs.States.{regions-back}
+use Rattle.ritm.specs.Interface.{unlessRefused, handleCall}
 
 -- regions with one more fit words
 inserted-fits : (rs : List MemoryAccessRegion) (n : ℕ) (r : MemoryAccessRegion) → n < length rs → Every RegionFits rs → RegionFits r
