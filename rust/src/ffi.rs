@@ -3,8 +3,8 @@
 //!
 //! A reference to a buffer is the thin pointer that the archive takes. Its alignment and its length
 //! are right by its type, and the buffers of one call cannot overlap, since Rust lends nothing
-//! beside what it lends to be changed. So there is nothing left for a caller to uphold, and each
-//! function is safe.
+//! beside what it lends to be changed. A slice is passed on as its pointer and its own length. So
+//! there is nothing left for a caller to uphold, and each function is safe.
 //!
 //! ```
 //! use ritm::ffi;
@@ -120,7 +120,7 @@ buffers! {
 
 // SAFETY: the functions have these signatures in C's calling convention. They are proved to be
 // defined for every argument, to write nothing but the buffers lent to be changed, and to keep no
-// pointer.
+// pointer. The one that is not safe reads as many bytes as the number after its pointer says.
 unsafe extern "C" {
     /// Makes the policy fresh.
     pub safe fn ritm_fresh_policy(policy: &mut Policy) -> u64;
@@ -130,6 +130,9 @@ unsafe extern "C" {
 
     /// Has a range handled.
     pub safe fn ritm_handle_range(policy: &mut Policy, base_ipa: u64, size: u64, read: u64, write: u64) -> u64;
+
+    #[link_name = "ritm_import_memory"]
+    unsafe fn import_memory(policy: &mut Policy, blob: *const u8, length: u64, attributes: u64) -> u64;
 
     /// Finds the region that has an address.
     pub safe fn ritm_find(policy: &Policy, ipa: u64, found: &mut FindResult) -> u64;
@@ -187,4 +190,11 @@ unsafe extern "C" {
 
     /// The size of a buffer by its number.
     pub safe fn ritm_buffer_size(buffer: u64) -> u64;
+}
+
+/// Allows the memory that a devicetree blob describes.
+pub fn ritm_import_memory(policy: &mut Policy, blob: &[u8], attributes: u64) -> u64 {
+    // SAFETY: the bytes from the slice's pointer on, as many as its length says, are readable, and
+    // not lent to be changed.
+    unsafe { import_memory(policy, blob.as_ptr(), blob.len() as u64, attributes) }
 }

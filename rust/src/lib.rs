@@ -46,11 +46,11 @@ mod tests {
     const EL1H: u64 = 5;
 
     #[test]
-    fn refusals_are_the_numbers_from_1_to_20() {
-        for number in 1..=20 {
+    fn refusals_are_the_numbers_from_1_to_22() {
+        for number in 1..=22 {
             assert_eq!(Refusal::try_from(number).map(Refusal::number), Ok(number));
         }
-        for number in [0, 21, u64::MAX] {
+        for number in [0, 23, u64::MAX] {
             assert_eq!(Refusal::try_from(number), Err(NoRefusal(number)));
         }
     }

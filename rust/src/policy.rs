@@ -130,6 +130,52 @@ impl Policy {
         accepted(ffi::ritm_allow_range(&mut self.0, base_ipa, size, attributes))
     }
 
+    /// Allows the memory that the board's flattened devicetree describes: each `reg` pair of each
+    /// child of the root whose `device_type` is `memory`, in the blob's order, all with this attribute
+    /// word. What stands in the slice after the blob's `totalsize` bytes is not read.
+    ///
+    /// An accepted import is the calls of [`Policy::allow_range`] for all its pairs; a refused one
+    /// allows none of them.
+    ///
+    /// A blob as QEMU hands it out is refused: its `totalsize` is 1 MiB, and some of its values are
+    /// padded with bytes that are not zero. Run `dtc -I dtb -O dtb` over it first.
+    ///
+    /// ```
+    /// use ritm::{Policy, Refusal};
+    ///
+    /// let text = |bytes: &[u8; 4]| u32::from_be_bytes(*bytes);
+    /// let words = [
+    ///     // The header, and the end of the memory reservations.
+    ///     0xd00d_feed, 144, 56, 128, 40, 17, 16, 0, 16, 72,
+    ///     0, 0, 0, 0,
+    ///     // The root and its child.
+    ///     1, 0,
+    ///     1, text(b"mem\0"),
+    ///     // device_type = "memory", reg = <0 0x40000000 0x10000000>: cell counts are 2 and 1 by default.
+    ///     3, 7, 0, text(b"memo"), text(b"ry\0\0"),
+    ///     3, 12, 12, 0, 0x4000_0000, 0x1000_0000,
+    ///     // The end of both nodes and of the structure; the names of the properties.
+    ///     2, 2, 9,
+    ///     text(b"devi"), text(b"ce_t"), text(b"ype\0"), text(b"reg\0"),
+    /// ];
+    /// let blob: Vec<u8> = words.iter().flat_map(|word: &u32| word.to_be_bytes()).collect();
+    ///
+    /// let mut policy = Policy::new();
+    /// policy.import_memory(&blob, 0x7fd)?;
+    /// assert!(policy.allowed_ranges().map(|range| (range.base_ipa, range.size)).eq([(0x4000_0000, 0x1000_0000)]));
+    /// assert_eq!(policy.import_memory(&blob, 0x7fd), Err(Refusal::AllowedRangeOverlap));
+    /// assert_eq!(policy.import_memory(&blob[..143], 0x7fd), Err(Refusal::InvalidDevicetree));
+    /// # Ok::<(), Refusal>(())
+    /// ```
+    ///
+    /// # Errors
+    ///
+    /// [`Refusal::InvalidDevicetree`], then [`Refusal::UnsupportedCellCounts`], then refusals 1 to 7,
+    /// the number that the first refused pair meets.
+    pub fn import_memory(&mut self, blob: &[u8], attributes: u64) -> Result<(), Refusal> {
+        accepted(ffi::ritm_import_memory(&mut self.0, blob, attributes))
+    }
+
     /// Has the guest's accesses to a range handled.
     ///
     /// # Errors
