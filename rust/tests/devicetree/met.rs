@@ -1,0 +1,54 @@
+//! How often each fault and each number was met: a run that misses one shows nothing of it.
+
+use crate::fault::Fault;
+use crate::memory::Read;
+use std::collections::BTreeMap;
+
+/// How often a run of a million must meet each, and each fault by blobs that were damaged once.
+const AT_LEAST: u64 = 300;
+
+pub struct Met {
+    numbers: BTreeMap<u64, u64>,
+    /// Imports that allowed a range or more.
+    with_ranges: u64,
+    /// In all, and by blobs that were not damaged or only once.
+    faults: BTreeMap<Fault, (u64, u64)>,
+}
+
+impl Met {
+    pub fn new() -> Self {
+        Self {
+            numbers: (0..=7).chain(21..=22).map(|number| (number, 0)).collect(),
+            with_ranges: 0,
+            faults: Fault::ALL.iter().map(|fault| (*fault, (0, 0))).collect(),
+        }
+    }
+
+    pub fn count(&mut self, number: u64, read: &Read, damages: u64) {
+        *self.numbers.get_mut(&number).expect("an import's number") += 1;
+        match read {
+            Ok(pairs) => self.with_ranges += u64::from(number == 0 && !pairs.is_empty()),
+            Err(fault) => {
+                let (all, once) = self.faults.get_mut(fault).expect("all faults are there");
+                *all += 1;
+                *once += u64::from(damages <= 1);
+            }
+        }
+    }
+
+    pub fn print(&self) {
+        let numbers: Vec<_> = self.numbers.iter().map(|(number, times)| format!("{number}: {times}")).collect();
+        println!("devicetree: numbers: {}", numbers.join(", "));
+        println!("devicetree: imports that allowed ranges: {}", self.with_ranges);
+        println!("devicetree: faults, and by blobs with one damage at most:");
+        for (fault, (all, once)) in &self.faults {
+            println!("devicetree:   {:<22} {all:>7} {once:>7}", format!("{fault:?}"));
+        }
+    }
+
+    pub fn often_enough(&self) -> bool {
+        self.with_ranges >= AT_LEAST
+            && self.numbers.values().all(|times| *times >= AT_LEAST)
+            && self.faults.values().all(|(_, once)| *once >= AT_LEAST)
+    }
+}
