@@ -6,24 +6,27 @@ use crate::writer::Blob;
 
 // Where the header's fields stand.
 const TOTALSIZE: usize = 4;
+const OFF_DT_STRINGS: usize = 12;
 const VERSION: usize = 20;
 const LAST_COMP_VERSION: usize = 24;
+const SIZE_DT_STRINGS: usize = 32;
 const SIZE_DT_STRUCT: usize = 36;
 const FIELDS: usize = 10;
 
 pub fn damage(blob: &mut Blob, random: &mut Random) {
     let bytes = &mut blob.bytes;
-    match random.below(12) {
+    match random.below(13) {
         0 | 1 => change_field(bytes, random),
         2 => change_versions(bytes, random),
         3 => cut_structure(bytes, random),
-        4 => truncate(bytes, random),
-        5 => change_byte(bytes, random),
-        6 => change_word(bytes, random),
-        7 => insert(bytes, random),
-        8 => remove(bytes, random),
-        9 => change_padding(blob, random),
-        10 => unend_string(bytes, random),
+        4 => empty_strings(bytes, random),
+        5 => truncate(bytes, random),
+        6 => change_byte(bytes, random),
+        7 => change_word(bytes, random),
+        8 => insert(bytes, random),
+        9 => remove(bytes, random),
+        10 => change_padding(blob, random),
+        11 => unend_string(bytes, random),
         _ => unend_reservations(bytes, random),
     }
 }
@@ -61,6 +64,14 @@ fn cut_structure(bytes: &mut [u8], random: &mut Random) {
     let Some(header) = header(bytes) else { return };
     let size = random.place(header.size_dt_struct + 5);
     put_word(bytes, SIZE_DT_STRUCT, size as u32);
+}
+
+/// A strings block that is empty, near the blob's end: inside it or not.
+fn empty_strings(bytes: &mut [u8], random: &mut Random) {
+    let Some(header) = header(bytes) else { return };
+    let offset = header.totalsize + random.place(3);
+    put_word(bytes, OFF_DT_STRINGS, (offset as u32).wrapping_sub(1));
+    put_word(bytes, SIZE_DT_STRINGS, 0);
 }
 
 fn truncate(bytes: &mut Vec<u8>, random: &mut Random) {

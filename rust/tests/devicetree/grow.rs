@@ -66,6 +66,11 @@ fn put_others(random: &mut Random, node: &mut Node) {
 /// A root with its children.
 pub fn root(random: &mut Random) -> Node {
     let mut root = Node::default();
+    if random.once_in(24) {
+        // No property at all, and so no string.
+        root.children.resize(random.place(3), Node::default());
+        return root;
+    }
     if random.once_in(16) {
         root.name = node_name(random);
     }

@@ -8,6 +8,7 @@ mod case;
 mod chance;
 mod damaged_bytes;
 mod damaged_parts;
+mod edges;
 mod fault;
 mod grow;
 mod header;

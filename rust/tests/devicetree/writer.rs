@@ -150,7 +150,7 @@ struct Layout {
 }
 
 impl Layout {
-    /// Blocks after each other in any order, often with gaps.
+    /// Blocks after each other in any order, often with gaps; rarely one that is not aligned.
     fn random(lengths: [usize; 3], random: &mut Random) -> Self {
         let mut order = USUAL_ORDER;
         if random.once_in(2) {
@@ -161,6 +161,9 @@ impl Layout {
         for block in order {
             layout.totalsize += gap(random);
             layout.totalsize = layout.totalsize.next_multiple_of(ALIGNMENTS[block]);
+            if random.once_in(128) {
+                layout.totalsize += random.place(ALIGNMENTS[block]);
+            }
             layout.offsets[block] = layout.totalsize;
             layout.totalsize += lengths[block];
         }
