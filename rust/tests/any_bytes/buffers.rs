@@ -1,5 +1,6 @@
 //! The buffers, what they may hold before a call, and what a result may hold after it.
 
+use crate::blob;
 use crate::random::Random;
 use ritm::ffi;
 
@@ -28,6 +29,8 @@ pub enum Buffer {
     EntryResult,
     AccessResult,
     WordResult,
+    /// A devicetree blob, the only buffer of any size.
+    Blob,
 }
 
 impl Buffer {
@@ -43,6 +46,7 @@ impl Buffer {
             Buffer::EntryResult => ffi::ENTRY_RESULT_SIZE,
             Buffer::AccessResult => ffi::ACCESS_RESULT_SIZE,
             Buffer::WordResult => ffi::WORD_RESULT_SIZE,
+            Buffer::Blob => blob::SIZE,
         }
     }
 
@@ -54,6 +58,7 @@ impl Buffer {
                 Buffer::Policy => fill_policy(&mut bytes, random),
                 Buffer::Cores => fill_cores(&mut bytes, random),
                 Buffer::Map => fill_map(&mut bytes, random),
+                Buffer::Blob => blob::fill(&mut bytes, random),
                 _ => {}
             }
         }

@@ -1,4 +1,4 @@
-//! The nineteen entry points: their buffers, their refusals, how to call them, with which numbers,
+//! The twenty entry points: their buffers, their refusals, how to call them, with which numbers,
 //! and which words of a state an accepted call may change.
 
 use crate::buffers::{
@@ -7,6 +7,7 @@ use crate::buffers::{
 use crate::random::Random;
 use crate::raw::*;
 use ritm::MemoryHandler;
+use std::ptr::null;
 
 /// What a call may do with a buffer.
 #[derive(Clone, Copy, Debug, PartialEq)]
@@ -40,7 +41,7 @@ use Use::*;
 
 // SAFETY, of every `call`: the pointers are those of buffers of the sizes that the entry point
 // names, which do not overlap. `call.rs` sees to that.
-pub static ENTRY_POINTS: [EntryPoint; 19] = [
+pub static ENTRY_POINTS: [EntryPoint; 20] = [
     EntryPoint {
         name: "ritm_fresh_policy",
         weight: 1,
@@ -67,6 +68,16 @@ pub static ENTRY_POINTS: [EntryPoint; 19] = [
         call: |b, n| unsafe { ritm_handle_range(b[0], n[0], n[1], n[2], n[3]) },
         numbers: range_numbers,
         may_change: region_places,
+    },
+    EntryPoint {
+        name: "ritm_import_memory",
+        weight: 4,
+        buffers: &[(Policy, Change), (Blob, Read)],
+        refusals: &[21, 22, 1, 2, 3, 4, 5, 6, 7],
+        // An empty slice may stand nowhere.
+        call: |b, n| unsafe { ritm_import_memory(b[0], if n[0] == 0 { null() } else { b[1] }, n[0], n[1]) },
+        numbers: |random, before| [before[1].len() as u64, random.any(), 0, 0, 0],
+        may_change: allowed_places,
     },
     EntryPoint {
         name: "ritm_find",
@@ -280,6 +291,12 @@ fn nothing(_: Numbers, _: &[u8], _: usize) -> bool {
 fn allowed_place(_: Numbers, before: &[u8], k: usize) -> bool {
     let count = word(before, ALLOWED_COUNT) as usize;
     k / ALLOWED_WORDS == count || k == ALLOWED_COUNT
+}
+
+/// The free places, and the count.
+fn allowed_places(_: Numbers, before: &[u8], k: usize) -> bool {
+    let count = word(before, ALLOWED_COUNT) as usize;
+    (count..32).contains(&(k / ALLOWED_WORDS)) || k == ALLOWED_COUNT
 }
 
 /// The places from the new region's up to the first free one, and the count.

@@ -3,6 +3,7 @@
 //!
 //! The seed is fixed; `RITM_SEED` names another.
 
+mod blob;
 mod buffers;
 mod call;
 mod entry_points;

@@ -19,7 +19,7 @@ pub struct Met {
 impl Met {
     pub fn new() -> Self {
         Self {
-            refusals: (1..=20).map(|number| (number, 0)).collect(),
+            refusals: (1..=22).map(|number| (number, 0)).collect(),
             kinds: (1..=5).map(|kind| (kind, 0)).collect(),
             accepted: ENTRY_POINTS.iter().map(|entry| (entry.name, 0)).collect(),
         }
