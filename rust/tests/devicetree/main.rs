@@ -12,6 +12,8 @@ mod edges;
 mod fault;
 mod grow;
 mod header;
+#[cfg(feature = "libfdt")]
+mod libfdt;
 mod memory;
 mod met;
 mod policies;
