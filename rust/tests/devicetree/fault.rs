@@ -29,8 +29,10 @@ faults! {
     ReservationsUnended, "An entry of zeros, inside totalsize whole, ends the memory reservations.";
     TokenCut, "Each token, and what belongs to it, lies inside the structure block, up to an FDT_END.";
     UnknownToken, "A token is one of the five.";
-    TokenBeforeRoot, "Nothing but FDT_NOP stands before the root.";
-    TokenAfterRoot, "Nothing but FDT_NOP stands between the root's end and FDT_END.";
+    NoRoot, "There is a root before FDT_END.";
+    SecondRoot, "There is one root.";
+    PropertyOutside, "A property stands in a node.";
+    NodeEndOutside, "FDT_END_NODE stands in a node, which it ends.";
     EndInNode, "Each node is ended by FDT_END_NODE before FDT_END.";
     PropertyAfterSubnode, "A node's properties stand before its first subnode.";
     EndBeforeBlocksEnd, "FDT_END ends where the structure block ends.";

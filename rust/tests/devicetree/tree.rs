@@ -35,17 +35,26 @@ pub fn tree(blocks: &Blocks<'_>) -> Result<Node, Fault> {
     let mut reader = Reader { structure: blocks.structure, strings: blocks.strings, at: 0 };
     match reader.token_after_nops()? {
         BEGIN_NODE => {}
-        END_NODE | PROP | END => return Err(Fault::TokenBeforeRoot),
-        _ => return Err(Fault::UnknownToken),
+        token => return Err(not_outside(token)),
     }
     let root = reader.node()?;
     match reader.token_after_nops()? {
         END => {}
-        BEGIN_NODE | END_NODE | PROP => return Err(Fault::TokenAfterRoot),
-        _ => return Err(Fault::UnknownToken),
+        token => return Err(not_outside(token)),
     }
     ensure(reader.at == blocks.structure.len(), Fault::EndBeforeBlocksEnd)?;
     Ok(root)
+}
+
+/// Why a token cannot stand before the root or after its end.
+fn not_outside(token: u32) -> Fault {
+    match token {
+        BEGIN_NODE => Fault::SecondRoot,
+        END_NODE => Fault::NodeEndOutside,
+        PROP => Fault::PropertyOutside,
+        END => Fault::NoRoot,
+        _ => Fault::UnknownToken,
+    }
 }
 
 struct Reader<'a> {
