@@ -1,10 +1,11 @@
 //! One slice and one policy, what must come of them, and what the archive makes of them.
 
+use crate::blob::Blob;
 use crate::grow;
 use crate::memory::{pairs, Pair, Read};
 use crate::policies::random_policy;
 use crate::random::Random;
-use crate::writer::{Blob, Parts};
+use crate::tokens::Parts;
 use crate::{damaged_bytes, damaged_parts};
 use ritm::{Policy, Refusal};
 

@@ -1,8 +1,8 @@
 //! Damage to the bytes of a blob.
 
+use crate::blob::Blob;
 use crate::header::{word, Header};
 use crate::random::Random;
-use crate::writer::Blob;
 
 // Where the header's fields stand.
 const TOTALSIZE: usize = 4;

@@ -1,7 +1,7 @@
 //! Damage to the parts of a blob before they are written: tokens and what belongs to them.
 
 use crate::random::Random;
-use crate::writer::{Parts, Token};
+use crate::tokens::{Parts, Token};
 
 pub fn damage(parts: &mut Parts, random: &mut Random) {
     let tokens = &mut parts.tokens;

@@ -1,8 +1,9 @@
 //! Blobs at the limits, and every truncation of one.
 
+use crate::blob::Blob;
 use crate::case::Case;
 use crate::random::Random;
-use crate::writer::{Blob, Parts, Token};
+use crate::tokens::{Parts, Token};
 use ritm::Policy;
 use std::thread;
 

@@ -4,6 +4,7 @@
 //! The reader is written from the specification's chapter 5 and from what was settled about it,
 //! without a look at the library. The seed is fixed; `RITM_SEED` names another.
 
+mod blob;
 mod case;
 mod chance;
 mod damaged_bytes;
@@ -21,8 +22,8 @@ mod policies;
 mod random;
 mod ranges;
 mod strings;
+mod tokens;
 mod tree;
-mod writer;
 
 use case::Case;
 use met::Met;
