@@ -78,15 +78,40 @@ fn properties_that_all_have_one_long_name() {
     assert_eq!(number(vec![property(0, b""); ROOM / 24], &name), 0);
 }
 
-#[test]
-fn every_truncation_is_refused() {
+/// A slice with a small blob that is accepted.
+fn small(random: &mut Random) -> Vec<u8> {
     let tokens = [vec![begin(b"")], memory(&page(1)), vec![Token::EndNode, Token::End]].concat();
     let parts = Parts { tokens, strings: STRINGS.to_vec(), reservations: vec![0; 16] };
+    Blob::of(&parts, random).bytes
+}
+
+#[test]
+fn every_truncation_is_refused() {
     let mut random = Random(2);
-    let whole = Blob::of(&parts, &mut random).bytes;
+    let whole = small(&mut random);
     let totalsize = u32::from_be_bytes(whole[4..8].try_into().expect("four bytes")) as usize;
     for length in 0..=whole.len() {
         let expected = if length < totalsize { 21 } else { 0 };
         assert_eq!(checked(&whole[..length], &mut random), expected, "{length} bytes");
     }
+}
+
+#[test]
+fn every_byte_holds_every_value() {
+    let mut random = Random(3);
+    let mut bytes = small(&mut random);
+    let (mut accepted, mut refused) = (0, 0);
+    for at in 0..bytes.len() {
+        let held = bytes[at];
+        for value in 0..=u8::MAX {
+            bytes[at] = value;
+            match checked(&bytes, &mut random) {
+                21 => refused += 1,
+                _ => accepted += 1,
+            }
+        }
+        bytes[at] = held;
+    }
+    println!("devicetree: a byte changed in {} bytes: 21 for {refused}, not for {accepted}", bytes.len());
+    assert!(refused > 1000 && accepted > 1000);
 }

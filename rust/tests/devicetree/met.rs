@@ -40,10 +40,9 @@ impl Met {
         let numbers: Vec<_> = self.numbers.iter().map(|(number, times)| format!("{number}: {times}")).collect();
         println!("devicetree: numbers: {}", numbers.join(", "));
         println!("devicetree: imports that allowed ranges: {}", self.with_ranges);
-        println!("devicetree: faults, and by blobs with one damage at most:");
-        for (fault, (all, once)) in &self.faults {
-            println!("devicetree:   {:<22} {all:>7} {once:>7}", format!("{fault:?}"));
-        }
+        let faults = self.faults.iter().map(|(fault, (all, once))| format!("{fault:?}: {all} ({once})"));
+        let faults: Vec<_> = faults.collect();
+        println!("devicetree: faults (with one damage at most): {}", faults.join(", "));
     }
 
     pub fn often_enough(&self) -> bool {
