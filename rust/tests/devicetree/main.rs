@@ -1,8 +1,8 @@
 //! Devicetrees, whole and damaged: the archive imports what a plain reader of our own finds in them,
 //! as if each pair were allowed by a call of its own, and is refused where a rule is broken.
 //!
-//! The reader is written from the specification's chapter 5 and from what was settled about it,
-//! without a look at the library. The seed is fixed; `RITM_SEED` names another.
+//! The reader is written from what was settled about the specification's chapter 5, without a look
+//! at the library; the published text was not at hand. The seed is fixed; `RITM_SEED` names another.
 
 mod blob;
 mod case;
