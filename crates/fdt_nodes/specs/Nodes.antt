@@ -1,31 +1,32 @@
 -- The nodes up to a place in the structure block, as the reader keeps them. Assumes nothing.
 use Prim.Native.Nat.{ℕ, _+_, _-_, _%_, _^_}
 use mathlib.Core.Bool.{Bool, true, false, not, cond}
-use mathlib.Core.List.{List, [], _∷_}
+use mathlib.Core.List.{List, [], _∷_, _++_}
 use lib.Dec.{eqb}
 use lib.ListN.{drop}
-use Rattle.fdt_tokens.specs.Devicetree.{hasZero, oneOrTwo}
+use Rattle.fdt_tokens.specs.Devicetree as dt
+use Rattle.fdt_tokens.specs.Devicetree.{hasZero, oneOrTwo, memoryType}
 use Rattle.fdt_tokens.specs.Bytes.{wordAt, begins}
 use Rattle.fdt_tokens.specs.declared.Event.{Event}
 use Rattle.fdt_tokens.specs.declared.Event.the-variants.{Nothing, Begin, EndNode, Prop, End}
 use Rattle.fdt_nodes.specs.declared.First.{First}
 use Rattle.fdt_nodes.specs.declared.Nodes.{Nodes}
 
--- "#address-cells", "#size-cells", "device_type", "reg", "memory", each with its zero byte
+-- the names that are looked for, and "memory", each with its zero byte
+abbrev terminated : List ℕ → List ℕ
+terminated name = name ++ (0 ∷ [])
+
 abbrev pub addressCells : List ℕ
-addressCells = 35 ∷ 97 ∷ 100 ∷ 100 ∷ 114 ∷ 101 ∷ 115 ∷ 115 ∷ 45 ∷ 99 ∷ 101 ∷ 108 ∷ 108 ∷ 115 ∷ 0 ∷ []
+addressCells = terminated dt.addressCells
 
 abbrev pub sizeCells : List ℕ
-sizeCells = 35 ∷ 115 ∷ 105 ∷ 122 ∷ 101 ∷ 45 ∷ 99 ∷ 101 ∷ 108 ∷ 108 ∷ 115 ∷ 0 ∷ []
+sizeCells = terminated dt.sizeCells
 
 abbrev pub deviceType : List ℕ
-deviceType = 100 ∷ 101 ∷ 118 ∷ 105 ∷ 99 ∷ 101 ∷ 95 ∷ 116 ∷ 121 ∷ 112 ∷ 101 ∷ 0 ∷ []
+deviceType = terminated dt.deviceType
 
 abbrev pub regName : List ℕ
-regName = 114 ∷ 101 ∷ 103 ∷ 0 ∷ []
-
-abbrev pub memory : List ℕ
-memory = 109 ∷ 101 ∷ 109 ∷ 111 ∷ 114 ∷ 121 ∷ 0 ∷ []
+regName = terminated dt.regName
 
 abbrev pub absent : First
 absent = record { seen = false; length = 0; value = 0 }
@@ -98,7 +99,7 @@ rootProperty s strings at n w name =
 
 unfoldable pub childProperty : List ℕ → List ℕ → ℕ → Nodes → ℕ → ℕ → Nodes
 childProperty s strings at n w name =
-    withChild n (firstNamed strings name deviceType (n .kind) w (flag (begins memory (drop at s)))) (firstNamed strings name regName (n .reg) w at)
+    withChild n (firstNamed strings name deviceType (n .kind) w (flag (begins memoryType (drop at s)))) (firstNamed strings name regName (n .reg) w at)
 
 unfoldable pub property : List ℕ → List ℕ → ℕ → Nodes → ℕ → ℕ → Nodes
 property s strings at n w name =

@@ -1,5 +1,5 @@
--- A flattened devicetree (Devicetree Specification, chapter 5), when a slice of bytes is a blob of a tree, and what memory a tree has.
--- Nothing here speaks of the reader. Assumes nothing.
+-- A flattened devicetree (Devicetree Specification, chapter 5, header version 17): when a slice of bytes is a blob of a tree, and what
+-- document 02's Ask 1 takes from a tree. Nothing here speaks of the reader. Assumes nothing.
 use Prim.Native.Nat.{ℕ, zero, suc, _+_, _*_, _/_, _%_, _≤_}
 use mathlib.Core.Path.{_≡_}
 use mathlib.Core.Bool.{Bool, true, false, _&&_, cond}
@@ -29,7 +29,7 @@ padded (a ∷ b ∷ []) = a ∷ b ∷ 0 ∷ 0 ∷ []
 padded (a ∷ b ∷ c ∷ []) = a ∷ b ∷ c ∷ 0 ∷ []
 padded (a ∷ b ∷ c ∷ d ∷ l) = a ∷ b ∷ c ∷ d ∷ padded l
 
--- the name at an offset of the strings block ends with the first zero byte from there on
+-- the name at an offset of the strings block ends with the first zero byte from there on, which lies inside the block
 pub record Named (strings : List ℕ) (off : ℕ) (name : List ℕ) : Type 0 where
   pub rest : List ℕ
   pub stands : drop off strings ≡ name ++ (0 ∷ rest)
@@ -59,12 +59,12 @@ pub data Tokens (strings : List ℕ) : List ℕ → List Token → Type 0 where
       → joined e f g h ≡ length (p .value) → Named strings (joined i j k m) (p .name) → Tokens strings l ts
       → Tokens strings (a ∷ b ∷ c ∷ d ∷ e ∷ f ∷ g ∷ h ∷ i ∷ j ∷ k ∷ m ∷ (padded (p .value) ++ l)) (prop p ∷ ts)
 
--- nodes side by side: the first one's properties, its children, and the nodes after it
+-- nodes side by side: the first one's properties, its children, and the nodes after it. Their names are not kept: nothing goes by them.
 pub data Forest : Type 0 where
   none : Forest
   node : List Property → Forest → Forest → Forest
 
--- a node is FDT_BEGIN_NODE, its properties, its children, FDT_END_NODE
+-- a node is FDT_BEGIN_NODE, its properties, its children, FDT_END_NODE: so properties stand before the first child
 unfoldable pub tokensOf : Forest → List Token
 tokensOf none = []
 tokensOf (node ps kids rest) = begin ∷ (map prop ps ++ (tokensOf kids ++ (end ∷ tokensOf rest)))
@@ -120,7 +120,7 @@ same [] (y ∷ ys) = false
 same (x ∷ xs) [] = false
 same (x ∷ xs) (y ∷ ys) = eqb x y && same xs ys
 
--- in a node the first property of a name counts; `otherwise` where it has none
+-- "In a node the first property of a name counts"; `otherwise` where it has none
 unfoldable pub valueOf : List ℕ → List ℕ → List Property → List ℕ
 valueOf name otherwise [] = otherwise
 valueOf name otherwise (p ∷ ps) = cond (same (p .name) name) (p .value) (valueOf name otherwise ps)
@@ -153,7 +153,8 @@ pairsOf (suc n) a z v =
     record { base = numberFrom 0 (take (4 * a) v); size = numberFrom 0 (take (4 * z) (drop (4 * a) v)) }
     ∷ pairsOf n a z (drop (4 * (a + z)) v)
 
--- the regs of the memory children of the root, in blob order; a child without reg has an empty one
+-- "each child of the root whose device_type is "memory" and a zero byte": their regs, in blob order. "A memory child without reg adds
+-- none": it has an empty one.
 unfoldable pub regsOf : Forest → List (List ℕ)
 regsOf none = []
 regsOf (node ps kids rest) =
@@ -164,12 +165,12 @@ unfoldable pub allPairs : ℕ → ℕ → List (List ℕ) → List Pair
 allPairs a z [] = []
 allPairs a z (v ∷ vs) = pairsOf (length v / (4 * (a + z))) a z v ++ allPairs a z vs
 
--- some reg is no whole number of pairs
+-- some "memory child's reg .. is no whole number of pairs"
 unfoldable pub ragged : ℕ → ℕ → List (List ℕ) → Bool
 ragged a z [] = false
 ragged a z (v ∷ vs) = cond (eqb (length v % (4 * (a + z))) 0) (ragged a z vs) true
 
--- a cell count that is accepted
+-- cell counts "1 and 2 are accepted"
 unfoldable pub oneOrTwo : ℕ → Bool
 oneOrTwo n = cond (eqb n 1) true (eqb n 2)
 
@@ -179,7 +180,8 @@ pub data Answer : Type 0 where
   unsupported : Answer
   pairs : List Pair → Answer
 
--- with the values of the root's cell counts and the regs of its memory children
+-- by the values of the root's cell counts and the regs of its memory children: 21 for "a root cell count not 4 bytes long", or, "where both
+-- counts are 1 or 2", a ragged reg; "then 22 for other cell counts"
 unfoldable pub answerBy : List ℕ → List ℕ → List (List ℕ) → Answer
 answerBy va vz regs =
     cond (eqb (length va) 4 && eqb (length vz) 4)
@@ -189,7 +191,7 @@ answerBy va vz regs =
     unsupported)
     invalid
 
--- the cell counts default to 2 for addresses and 1 for sizes
+-- what a tree says of memory: "The root's cell counts default to 2 for addresses and 1 for sizes"
 unfoldable pub says : Tree → Answer
 says t =
     answerBy (valueOf addressCells (0 ∷ 0 ∷ 0 ∷ 2 ∷ []) (t .properties)) (valueOf sizeCells (0 ∷ 0 ∷ 0 ∷ 1 ∷ []) (t .properties))
