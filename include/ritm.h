@@ -5,7 +5,8 @@
  * little-endian in memory whatever the processor is: ritm_get_word reads it on any host, and a little-endian one may
  * read and write words[k] itself. Any words are a valid state, and an unknown code in them reads as 0. Every buffer of
  * a call must be readable and, unless it is const, writable in its whole size, whatever the call comes to: no pointer
- * may be null. The buffers of one call must not overlap. No function keeps a pointer.
+ * may be null, but for the blob of an import whose length is 0. The buffers of one call must not overlap. No function
+ * keeps a pointer.
  *
  * Alignment. A buffer that is declared by its type is aligned to 8, and no archive asks for more. One that comes from
  * elsewhere must be aligned to 8 too for the archive for 64-bit Arm, whose accesses are of 64 bits at multiples of 8
@@ -13,7 +14,7 @@
  * MMU on, SCTLR_EL2.A clear). The strict archive for 64-bit Arm and the one for x86-64 take a buffer anywhere
  * (board/README.md).
  *
- * Other code. Of other code the archive calls memset alone; the strict one calls memcpy too.
+ * Other code. Of other code the archive calls memcpy and memset alone.
  *
  * Several processors. The archive has no data of its own, so calls on different buffers may run at the same time. Calls
  * on the same buffer may only where all of them take it as const: a policy that nothing changes any more may be shared
@@ -147,7 +148,11 @@ enum ritm_refusal {
     /* The ISS has ISV clear. */
     RITM_NO_SYNDROME = 19,
     /* A handler's number is none of enum ritm_memory_handler. */
-    RITM_UNKNOWN_MEMORY_HANDLER = 20
+    RITM_UNKNOWN_MEMORY_HANDLER = 20,
+    /* The bytes are no devicetree blob of up to 64 KiB that ritm_import_memory reads. */
+    RITM_INVALID_DEVICETREE = 21,
+    /* The devicetree's root has an #address-cells or #size-cells other than 1 and 2. */
+    RITM_UNSUPPORTED_CELL_COUNTS = 22
 };
 
 /* Who serves the loads or the stores of a region. */
@@ -304,6 +309,24 @@ uint64_t ritm_allow_range(struct ritm_policy *policy, uint64_t base_ipa, uint64_
 /* Has the guest's accesses to a range handled, loads by one handler and stores by another (enum ritm_memory_handler).
    Refusals 20, 1 to 4, 6, 8, 9. */
 uint64_t ritm_handle_range(struct ritm_policy *policy, uint64_t base_ipa, uint64_t size, uint64_t read, uint64_t write);
+
+/*
+ * Allows the memory that a flattened devicetree (Devicetree Specification, chapter 5, version 17) describes: for each
+ * child of the root whose device_type is "memory", in the blob's order, every base and size of its reg, all with one
+ * attribute word. It is all of these ritm_allow_range calls, or none of them. A node's name and its status make no
+ * difference, a memory node below a child of the root is not used, and in a node the first property of a name counts.
+ * A blob without memory is accepted, and allows nothing.
+ *
+ * Refusals: 21; 22; then that of the first pair that is refused, 1 to 7. A size of 0, as in a blob whose memory a boot
+ * loader has yet to fill in, is 2.
+ *
+ * The blob may stand at any address, and length may be more than the blob's own totalsize: what follows totalsize is
+ * not read. A blob above 65,536 bytes is 21, and so is length 0, for which alone blob may be null.
+ *
+ * 21 is also a blob whose names and values are not filled up with zero bytes. Those that QEMU makes are not, besides
+ * having a totalsize of 1 MiB, which fdt_pack alone lowers: write such a blob anew first, with dtc -I dtb -O dtb.
+ */
+uint64_t ritm_import_memory(struct ritm_policy *policy, const void *blob, uint64_t length, uint64_t attributes);
 
 /* Finds the first region with the address, and the offset in it. No refusal: none is found 0. */
 uint64_t ritm_find(const struct ritm_policy *policy, uint64_t ipa, struct ritm_find_result *found);
