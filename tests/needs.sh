@@ -11,6 +11,7 @@ missing() {
 brought_by() {
     case $1 in
     aarch64-linux-gnu-gcc) echo " (Debian: gcc-aarch64-linux-gnu)" ;;
+    dtc) echo " (Debian: device-tree-compiler)" ;;
     qemu-aarch64 | qemu-x86_64) echo " (Debian: qemu-user)" ;;
     qemu-system-aarch64) echo " (Debian: qemu-system-arm)" ;;
     esac
@@ -37,6 +38,31 @@ lacks_arm_user() {
 # The same of the archive at EL2.
 lacks_arm_board() {
     lacks cc aarch64-linux-gnu-gcc qemu-system-aarch64
+}
+
+# Says what is missing to make the blobs of tests/devicetree again, if something is. Another version of dtc may write
+# other bytes, as good as these.
+lacks_devicetree_tools() {
+    lacking=$(lacks cc dtc)
+    version=$(dtc --version 2>/dev/null) || version=none
+    if [ -n "$lacking" ]; then
+        echo "$lacking"
+    elif [ "$version" != "Version: DTC 1.6.1" ]; then
+        echo "dtc 1.6.1 is needed, and there is ${version#Version: }"
+    else
+        lacks_libfdt
+    fi
+}
+
+# Says what is missing to compile with libfdt, if something is.
+lacks_libfdt() {
+    lacking=$(lacks cc)
+    if [ -n "$lacking" ]; then
+        echo "$lacking"
+    elif ! echo 'int main(void) { return fdt_check_full(0, 0) == 0; }' |
+        cc -include libfdt.h -x c - -lfdt -o /dev/null 2>/dev/null; then
+        echo "there is no libfdt 1.4.7 or later (Debian: libfdt-dev)"
+    fi
 }
 
 # Says what is missing for the cargo package in a folder, if something is: cargo, as new as the package asks for, or cc,
