@@ -147,10 +147,10 @@ static void begin(struct blob *blob, size_t reservations)
     }
 }
 
-static void put_end(struct blob *blob, const uint32_t *words, size_t count)
-{
-    put_words(blob, get(blob, OFF_DT_STRUCT) + get(blob, SIZE_DT_STRUCT), words, count);
-}
+/* Puts words at a place of the structure block, or at its end. */
+#define COUNT_OF(...) (sizeof((const uint32_t[]){__VA_ARGS__}) / 4)
+#define PUT_WORDS(blob, place, ...) put_words(blob, place, (const uint32_t[]){__VA_ARGS__}, COUNT_OF(__VA_ARGS__))
+#define PUT_LAST(blob, ...) PUT_WORDS(blob, get(blob, OFF_DT_STRUCT) + get(blob, SIZE_DT_STRUCT), __VA_ARGS__)
 
 /* The good blob's strings, by their offsets. */
 #define NAME_ADDRESS_CELLS 0
@@ -189,42 +189,17 @@ static void put_end(struct blob *blob, const uint32_t *words, size_t count)
 
 static void make_good(struct blob *blob)
 {
-    static const uint32_t words[] = {
-        FDT_BEGIN_NODE,
-        0, /* the root, */
-        FDT_PROP,
-        4,
-        NAME_ADDRESS_CELLS,
-        2, /* its cell counts, */
-        FDT_PROP,
-        4,
-        NAME_SIZE_CELLS,
-        2, /* */
-        FDT_BEGIN_NODE,
-        0x6d656d6f,
-        0x72794034,
-        0x30303030,
-        0x30303000, /* memory@40000000, */
-        FDT_PROP,
-        7,
-        NAME_DEVICE_TYPE,
-        MEMORY_WORDS, /* */
-        FDT_PROP,
-        16,
-        NAME_REG,
-        0,
-        (uint32_t)GOOD_BASE,
-        0,
-        (uint32_t)GOOD_SIZE, /* */
-        FDT_END_NODE,
-        FDT_BEGIN_NODE,
-        0x61620000,
-        FDT_END_NODE, /* a node "ab", */
-        FDT_END_NODE,
-        FDT_END, /* and the ends. */
-    };
     begin(blob, 1);
-    put_end(blob, words, sizeof words / sizeof words[0]);
+    PUT_LAST(blob, FDT_BEGIN_NODE, 0);
+    PUT_LAST(blob, FDT_PROP, 4, NAME_ADDRESS_CELLS, 2);
+    PUT_LAST(blob, FDT_PROP, 4, NAME_SIZE_CELLS, 2);
+    PUT_LAST(blob, FDT_BEGIN_NODE, 0x6d656d6f, 0x72794034, 0x30303030, 0x30303000); /* memory@40000000 */
+    PUT_LAST(blob, FDT_PROP, 7, NAME_DEVICE_TYPE, MEMORY_WORDS);
+    PUT_LAST(blob, FDT_PROP, 16, NAME_REG, 0, (uint32_t)GOOD_BASE, 0, (uint32_t)GOOD_SIZE);
+    PUT_LAST(blob, FDT_END_NODE);
+    PUT_LAST(blob, FDT_BEGIN_NODE, 0x61620000); /* ab */
+    PUT_LAST(blob, FDT_END_NODE);
+    PUT_LAST(blob, FDT_END_NODE, FDT_END);
     put_string(blob, "#address-cells");
     put_string(blob, "#size-cells");
     put_string(blob, "device_type");
@@ -239,9 +214,8 @@ static void make_good(struct blob *blob)
 
 static void make_bare(struct blob *blob)
 {
-    static const uint32_t words[] = {FDT_BEGIN_NODE, 0, FDT_END_NODE, FDT_END};
     begin(blob, 0);
-    put_end(blob, words, sizeof words / sizeof words[0]);
+    PUT_LAST(blob, FDT_BEGIN_NODE, 0, FDT_END_NODE, FDT_END);
 }
 
 /*
@@ -260,34 +234,15 @@ struct change {
 
 /* A word or a byte is set; words come into the structure block; bytes are taken from it; zero bytes come between
    blocks; a string comes after the others; the slice is of another length. */
-#define SET(place, word)                                                                                               \
-    {                                                                                                                  \
-        WORD, place, 1, {word}, 0                                                                                      \
-    }
-#define SET_BYTE(place, byte)                                                                                          \
-    {                                                                                                                  \
-        BYTE, place, 1, {byte}, 0                                                                                      \
-    }
-#define PUT(place, ...)                                                                                                \
-    {                                                                                                                  \
-        WORDS, place, sizeof((uint32_t[]){__VA_ARGS__}) / 4, {__VA_ARGS__}, 0                                          \
-    }
-#define TAKE(place, size)                                                                                              \
-    {                                                                                                                  \
-        CUT, place, size, {0}, 0                                                                                       \
-    }
-#define SPACE(place, size)                                                                                             \
-    {                                                                                                                  \
-        GAP, place, size, {0}, 0                                                                                       \
-    }
-#define ADD_STRING(text)                                                                                               \
-    {                                                                                                                  \
-        STRING, 0, 0, {0}, text                                                                                        \
-    }
-#define SLICE_OF(length)                                                                                               \
-    {                                                                                                                  \
-        SLICE, length, 0, {0}, 0                                                                                       \
-    }
+/* clang-format off */
+#define SET(place, word) {WORD, place, 1, {word}, 0}
+#define SET_BYTE(place, byte) {BYTE, place, 1, {byte}, 0}
+#define PUT(place, ...) {WORDS, place, COUNT_OF(__VA_ARGS__), {__VA_ARGS__}, 0}
+#define TAKE(place, size) {CUT, place, size, {0}, 0}
+#define SPACE(place, size) {GAP, place, size, {0}, 0}
+#define ADD_STRING(text) {STRING, 0, 0, {0}, text}
+#define SLICE_OF(length) {SLICE, length, 0, {0}, 0}
+/* clang-format on */
 
 static void change(struct blob *blob, const struct change *changes, size_t count)
 {
@@ -321,46 +276,17 @@ static void change(struct blob *blob, const struct change *changes, size_t count
     }
 }
 
-/* What a blob with these changes is answered, and the pairs that are allowed where it is accepted. */
+/* What a blob is answered: accepted, with the good blob's pair, with none or with others; or refused. */
+enum outcome { MEMORY_ALLOWED, NO_MEMORY, PAIRS_ALLOWED, INVALID, CELL_COUNTS };
+
 #define MOST_CHANGES 6
-#define MOST_PAIRS 3
 struct row {
     const char *what;
-    uint64_t number;
-    struct pair pairs[MOST_PAIRS];
+    enum outcome outcome;
     struct change changes[MOST_CHANGES];
 };
 
-#define MEMORY_ALLOWED                                                                                                 \
-    RITM_ACCEPTED,                                                                                                     \
-    {                                                                                                                  \
-        {                                                                                                              \
-            GOOD_BASE, GOOD_SIZE                                                                                       \
-        }                                                                                                              \
-    }
-#define NO_MEMORY                                                                                                      \
-    RITM_ACCEPTED,                                                                                                     \
-    {                                                                                                                  \
-        {                                                                                                              \
-            0, 0                                                                                                       \
-        }                                                                                                              \
-    }
-#define INVALID                                                                                                        \
-    RITM_INVALID_DEVICETREE,                                                                                           \
-    {                                                                                                                  \
-        {                                                                                                              \
-            0, 0                                                                                                       \
-        }                                                                                                              \
-    }
-#define CELL_COUNTS                                                                                                    \
-    RITM_UNSUPPORTED_CELL_COUNTS,                                                                                      \
-    {                                                                                                                  \
-        {                                                                                                              \
-            0, 0                                                                                                       \
-        }                                                                                                              \
-    }
-
-/* A property of one word, and memory of one pair in a node of its own. */
+/* A property whose value is one word. */
 #define PROPERTY(name, word) FDT_PROP, 4, name, word
 
 static const struct row good_rows[] = {
@@ -416,7 +342,7 @@ static const struct row good_rows[] = {
       SET(SIZE_CELLS + NAME, STRINGS + NAME_SIZE_CELLS), SET(DEVICE_TYPE + NAME, STRINGS + NAME_DEVICE_TYPE),
       SET(REG + NAME, STRINGS + NAME_REG)}},
 
-    /* The reservations: their entry is zero but for the low byte of its size. */
+    /* The reservations. The good blob's entry has the address 0, and a size. */
     {"reservations at a multiple of 8", MEMORY_ALLOWED, {SPACE(RESERVATION, 8)}},
     {"reservations at an odd multiple of 4", INVALID, {SPACE(RESERVATION, 4), SPACE(STRUCTURE + 4, 4)}},
     {"reservations at an odd place", INVALID, {SPACE(RESERVATION, 1), SPACE(STRUCTURE + 1, 3)}},
@@ -571,15 +497,6 @@ static const struct row good_rows[] = {
     {"address cells 1 after 3", CELL_COUNTS, {SET(ADDRESS_CELLS + VALUE, 3), PUT(SIZE_CELLS, PROPERTY(0, 1))}},
     {"address cells 3 after 2", MEMORY_ALLOWED, {PUT(SIZE_CELLS, PROPERTY(0, 3))}},
     {"no address cells: two", MEMORY_ALLOWED, {TAKE(ADDRESS_CELLS, 16)}},
-    {"no size cells: one",
-     RITM_ACCEPTED,
-     {{GOOD_BASE, 0x1000}},
-     {SET(REG + LENGTH, 12), SET(REG + VALUE + 8, 0x1000), TAKE(REG + VALUE + 12, 4), TAKE(SIZE_CELLS, 16)}},
-    {"cells of one word each: two pairs",
-     RITM_ACCEPTED,
-     {{0x40000000, 0x1000}, {0x80000000, 0x2000}},
-     {SET(ADDRESS_CELLS + VALUE, 1), SET(SIZE_CELLS + VALUE, 1), SET(REG + VALUE, 0x40000000),
-      SET(REG + VALUE + 4, 0x1000), SET(REG + VALUE + 8, 0x80000000), SET(REG + VALUE + 12, 0x2000)}},
 
     /* Memory. */
     {"a device_type of no bytes", NO_MEMORY, {SET(DEVICE_TYPE + LENGTH, 0), TAKE(DEVICE_TYPE + VALUE, 8)}},
@@ -633,6 +550,9 @@ static const struct row bare_rows[] = {
      {PUT(BARE_LAST, FDT_NOP), PUT(BARE_ROOT_END, FDT_NOP), PUT(BARE_STRUCTURE, FDT_NOP, FDT_NOP)}},
     {"a root without a name's word", INVALID, {TAKE(BARE_STRUCTURE + 4, 4)}},
     {"a structure block in the header's place", INVALID, {SET(OFF_DT_STRUCT, 0)}},
+    {"a structure block one byte past totalsize, not past the slice",
+     INVALID,
+     {SET(OFF_DT_STRINGS, 0), SET(TOTALSIZE, BARE_SIZE - 1)}},
     {"a structure block past totalsize, at its end", INVALID, {SET(SIZE_DT_STRUCT, 20)}},
     {"cell counts alone", NO_MEMORY, {PUT(BARE_ROOT_END, PROPERTY(0, 1)), ADD_STRING("#size-cells")}},
     {"size cells 3 and no child", CELL_COUNTS, {PUT(BARE_ROOT_END, PROPERTY(0, 3)), ADD_STRING("#size-cells")}},
@@ -640,6 +560,25 @@ static const struct row bare_rows[] = {
     {"address cells 0 and no child", CELL_COUNTS, {PUT(BARE_ROOT_END, PROPERTY(0, 0)), ADD_STRING("#address-cells")}},
     {"a longer name than #size-cells", NO_MEMORY, {PUT(BARE_ROOT_END, PROPERTY(0, 3)), ADD_STRING("#size-cellsx")}},
     {"a shorter name than #size-cells", NO_MEMORY, {PUT(BARE_ROOT_END, PROPERTY(0, 3)), ADD_STRING("#size-cell")}},
+};
+
+/* Blobs of other pairs than the good one's. */
+static const struct {
+    struct row row;
+    struct pair pairs[2];
+    size_t count;
+} pair_rows[] = {
+    {{"no size cells: one",
+      PAIRS_ALLOWED,
+      {SET(REG + LENGTH, 12), SET(REG + VALUE + 8, 0x1000), TAKE(REG + VALUE + 12, 4), TAKE(SIZE_CELLS, 16)}},
+     {{GOOD_BASE, 0x1000}},
+     1},
+    {{"cells of one word each: two pairs",
+      PAIRS_ALLOWED,
+      {SET(ADDRESS_CELLS + VALUE, 1), SET(SIZE_CELLS + VALUE, 1), SET(REG + VALUE, 0x40000000),
+       SET(REG + VALUE + 4, 0x1000), SET(REG + VALUE + 8, 0x80000000), SET(REG + VALUE + 12, 0x2000)}},
+     {{0x40000000, 0x1000}, {0x80000000, 0x2000}},
+     2},
 };
 
 /*
@@ -742,17 +681,38 @@ static void expect_import(const char *what, const struct blob *blob, uint64_t nu
     import_everywhere(what, &before, blob, number, &after);
 }
 
-static void test_rows(void (*make)(struct blob *), const struct row *rows, size_t count)
+static uint64_t number_of(enum outcome outcome)
+{
+    switch (outcome) {
+    case INVALID:
+        return RITM_INVALID_DEVICETREE;
+    case CELL_COUNTS:
+        return RITM_UNSUPPORTED_CELL_COUNTS;
+    default:
+        return RITM_ACCEPTED;
+    }
+}
+
+static void test_row(void (*make)(struct blob *), const struct row *row, const struct pair *pairs, size_t count)
 {
     static struct blob blob;
+    make(&blob);
+    change(&blob, row->changes, MOST_CHANGES);
+    expect_import(row->what, &blob, number_of(row->outcome), pairs, count);
+}
+
+static void test_rows(void (*make)(struct blob *), const struct row *rows, size_t count)
+{
+    static const struct pair good = {GOOD_BASE, GOOD_SIZE};
     for (size_t k = 0; k < count; k++) {
-        size_t pairs = 0;
-        while (pairs < MOST_PAIRS && rows[k].pairs[pairs].size != 0) {
-            pairs++;
-        }
-        make(&blob);
-        change(&blob, rows[k].changes, MOST_CHANGES);
-        expect_import(rows[k].what, &blob, rows[k].number, rows[k].pairs, pairs);
+        test_row(make, &rows[k], &good, rows[k].outcome == MEMORY_ALLOWED);
+    }
+}
+
+static void test_pair_rows(void)
+{
+    for (size_t k = 0; k < sizeof pair_rows / sizeof pair_rows[0]; k++) {
+        test_row(make_good, &pair_rows[k].row, pair_rows[k].pairs, pair_rows[k].count);
     }
 }
 
@@ -815,25 +775,18 @@ static void test_structure_truncated(void)
 /* Memory of these pairs, in one node or in a node for each. */
 static void make_pairs(struct blob *blob, const struct pair *pairs, size_t count, int one_node)
 {
-    static const uint32_t node[] = {FDT_BEGIN_NODE, 0x6d000000, FDT_PROP, 7, NAME_DEVICE_TYPE, MEMORY_WORDS};
+    size_t place = MEMORY;
     make_good(blob);
     cut(blob, MEMORY, MEMORY_END + 4 - MEMORY);
-    size_t place = MEMORY;
     for (size_t k = 0; k < count; k++) {
-        const uint32_t words[] = {(uint32_t)(pairs[k].base >> 32), (uint32_t)pairs[k].base,
-                                  (uint32_t)(pairs[k].size >> 32), (uint32_t)pairs[k].size};
         if (k == 0 || !one_node) {
-            const uint32_t property[] = {FDT_PROP, 16 * (one_node ? (uint32_t)count : 1), NAME_REG};
-            put_words(blob, place, node, 7);
-            put_words(blob, place + 28, property, 3);
+            PUT_WORDS(blob, place, FDT_BEGIN_NODE, 0x6d000000, FDT_PROP, 7, NAME_DEVICE_TYPE, MEMORY_WORDS, FDT_PROP,
+                      one_node ? 16 * (uint32_t)count : 16, NAME_REG, FDT_END_NODE);
             place += 40;
         }
-        put_words(blob, place, words, 4);
-        place += 16;
-        if (k == count - 1 || !one_node) {
-            put_words(blob, place, (const uint32_t[]){FDT_END_NODE}, 1);
-            place += 4;
-        }
+        PUT_WORDS(blob, place, (uint32_t)(pairs[k].base >> 32), (uint32_t)pairs[k].base,
+                  (uint32_t)(pairs[k].size >> 32), (uint32_t)pairs[k].size);
+        place += one_node ? 16 : 20;
     }
 }
 
@@ -921,14 +874,11 @@ static void test_full(void)
 static void test_deep(void)
 {
     static struct blob blob;
-    static const uint32_t begin_node[] = {FDT_BEGIN_NODE, 0};
-    static const uint32_t end_node[] = {FDT_END_NODE};
     struct pair pair = {GOOD_BASE, GOOD_SIZE};
     make_good(&blob);
     size_t place = MEMORY;
     for (size_t k = 0; k < 5400; k++) {
-        put_words(&blob, place, end_node, 1);
-        put_words(&blob, place, begin_node, 2);
+        PUT_WORDS(&blob, place, FDT_BEGIN_NODE, 0, FDT_END_NODE);
         place += 8;
     }
     expect_import("5,400 nodes in each other", &blob, RITM_ACCEPTED, &pair, 1);
@@ -1005,6 +955,7 @@ int main(int argc, char **argv)
     expect("the good blob", "length", blob.length, SIZE);
     TEST_ROWS(make_good, good_rows);
     TEST_ROWS(make_bare, bare_rows);
+    test_pair_rows();
     test_no_blob();
     test_truncated(&blob);
     test_structure_truncated();

@@ -92,6 +92,40 @@ static uint64_t handle(const uint64_t *a)
     return ritm_handle_range(&policy, a[2], a[3], a[4], a[5]);
 }
 
+/* Puts the words of a devicetree, and gives the place after them. */
+static uint8_t *put_big_endian(uint8_t *bytes, const uint32_t *words, size_t count)
+{
+    for (size_t i = 0; i < 4 * count; i++) {
+        bytes[i] = (uint8_t)(words[i / 4] >> (24 - 8 * (i % 4)));
+    }
+    return bytes + 4 * count;
+}
+
+/* Imports memory of one pair. Arguments: ranges and regions held, base, size, the count of address cells. */
+static uint64_t import(const uint64_t *a)
+{
+    /* The header with the reservations' end; the root with its cell counts; a node "m" with its type and its pair. */
+    const uint32_t cells = (uint32_t)a[4];
+    const uint32_t pair[] = {(uint32_t)(a[2] >> 32), (uint32_t)a[2], (uint32_t)(a[3] >> 32), (uint32_t)a[3]};
+    const uint32_t header[] = {0xd00dfeed, 207, 56, 164, 40, 17, 16, 0, 43, 108, 0, 0, 0, 0};
+    const uint32_t root[] = {1, 0, 3, 4, 0, cells, 3, 4, 15, 2};
+    const uint32_t memory[] = {1, 0x6d000000, 3, 7, 27, 0x6d656d6f, 0x72790000};
+    const uint32_t reg[] = {3, 16, 39, pair[0], pair[1], pair[2], pair[3]};
+    const uint32_t ends[] = {2, 2, 9};
+    static const char strings[] = "#address-cells\0#size-cells\0device_type\0reg";
+    uint8_t blob[207];
+    uint8_t *next = blob;
+    struct ritm_policy policy;
+    next = put_big_endian(next, header, 14);
+    next = put_big_endian(next, root, 10);
+    next = put_big_endian(next, memory, 7);
+    next = put_big_endian(next, reg, 7);
+    next = put_big_endian(next, ends, 3);
+    memcpy(next, strings, sizeof strings);
+    make_policy(&policy, a[0], a[1], 0, 0);
+    return ritm_import_memory(&policy, blob, sizeof blob, 0);
+}
+
 /* How many numbers name a handler: the first that does not. */
 static uint64_t known_handlers(const uint64_t *a)
 {
@@ -439,6 +473,17 @@ static const struct row rows[] = {
     {NAMED(RITM_NO_PAGE_ABOVE), align_up, {UINT64_MAX}},
     {NAMED(RITM_NO_SYNDROME), decode, {0}},
     {NAMED(RITM_UNKNOWN_MEMORY_HANDLER), handle, {0, 0, APART, PAGE, 1, RITM_HANDLER_COUNT}},
+
+    {NAMED(RITM_ACCEPTED), import, {0, 0, APART, PAGE, 2}},
+    {NAMED(RITM_RANGE_BASE_NOT_PAGE_ALIGNED), import, {0, 0, 1, 0, 2}},
+    {NAMED(RITM_EMPTY_RANGE), import, {0, 0, APART, 0, 2}},
+    {NAMED(RITM_RANGE_SIZE_NOT_PAGE_MULTIPLE), import, {0, 0, APART, 1, 2}},
+    {NAMED(RITM_RANGE_END_OVERFLOW), import, {0, 0, UINT64_MAX - 0xfff, PAGE, 2}},
+    {NAMED(RITM_TOO_MANY_ALLOWED_RANGES), import, {MANY, 0, APART, PAGE, 2}},
+    {NAMED(RITM_ALLOWED_RANGE_OVERLAP), import, {2, 0, ALLOWED(1), PAGE, 2}},
+    {NAMED(RITM_ALLOWED_RANGE_OVERLAPS_MEMORY_ACCESS_HANDLER), import, {2, 2, REGION(1), PAGE, 2}},
+    {NAMED(RITM_INVALID_DEVICETREE), import, {0, 0, APART, PAGE, 1}},
+    {NAMED(RITM_UNSUPPORTED_CELL_COUNTS), import, {0, 0, APART, PAGE, 3}},
 
     {NAMED(RITM_HANDLER_COUNT), known_handlers, {0}},
     {NAMED(RITM_HANDLER_ABSENT), handler_code, {RITM_TRAP_ABORT_INJECTED}},

@@ -61,7 +61,7 @@ lacks_libfdt() {
         echo "$lacking"
     elif ! echo 'int main(void) { return fdt_check_full(0, 0) == 0; }' |
         cc -include libfdt.h -x c - -lfdt -o /dev/null 2>/dev/null; then
-        echo "there is no libfdt 1.4.7 or later (Debian: libfdt-dev)"
+        echo "there is no libfdt with fdt_check_full (Debian: libfdt-dev)"
     fi
 }
 
