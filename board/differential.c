@@ -23,7 +23,7 @@ struct buffer {
     size_t size;
 };
 
-static struct buffer policy, cores, map, registers, values, trapped, found, entry, access_result, word;
+static struct buffer policy, cores, map, registers, values, trapped, found, entry, access_result, word, blob;
 static struct outcome outcome;
 static uint64_t state;
 
@@ -142,6 +142,91 @@ static void fill_registers(void)
     ritm_put_word(registers.start, 0, function_id());
 }
 
+/*
+ * Devicetree blobs: a root with its cell counts, a memory node of few pairs and an empty node, every other time
+ * damaged. The longest takes 235 bytes.
+ */
+
+#define BLOB_SIZE 256
+
+static void put_big_endian(size_t place, uint32_t w)
+{
+    for (size_t i = 0; i < 4; i++) {
+        blob.start[place + i] = (uint8_t)(w >> (24 - 8 * i));
+    }
+}
+
+/* Puts a number of one or two cells, and gives the place after it. */
+static size_t put_cells(size_t place, uint64_t value, uint64_t cells)
+{
+    if (cells == 2) {
+        put_big_endian(place, (uint32_t)(value >> 32));
+        place += 4;
+    }
+    put_big_endian(place, (uint32_t)value);
+    return place + 4;
+}
+
+static size_t put_all(size_t place, const uint32_t *words, size_t count)
+{
+    for (size_t k = 0; k < count; k++) {
+        put_big_endian(place + 4 * k, words[k]);
+    }
+    return place + 4 * count;
+}
+
+/* Puts the memory's pairs, and gives the place after them. */
+static size_t put_pairs(size_t place, uint64_t pairs, uint64_t address_cells, uint64_t size_cells)
+{
+    for (uint64_t k = 0; k < pairs; k++) {
+        const uint64_t pair_base = base();
+        const uint64_t pair_size = size();
+        place = put_cells(place, pair_base, address_cells);
+        place = put_cells(place, pair_size, size_cells);
+    }
+    return place;
+}
+
+/* A byte of the blob is any, or one of its words a token, a small number or a place. */
+static void damage(size_t length)
+{
+    const uint64_t place = below(length);
+    const uint64_t value = any();
+    if (once_in(2)) {
+        blob.start[place] = (uint8_t)value;
+    } else {
+        put_big_endian(place & ~UINT64_C(3), (uint32_t)(once_in(8) ? value : value % 300));
+    }
+}
+
+/* Fills the blob, and gives its length. */
+static size_t fill_blob(void)
+{
+    static const char strings[] = "#address-cells\0#size-cells\0device_type\0reg";
+    const uint32_t address_cells = (uint32_t)(once_in(16) ? below(5) : 1 + below(2));
+    const uint32_t size_cells = (uint32_t)(once_in(16) ? below(5) : 1 + below(2));
+    const uint32_t pairs = (uint32_t)below(3);
+    const uint32_t reg_size = 4 * pairs * ((address_cells == 2 ? 2 : 1) + (size_cells == 2 ? 2 : 1));
+    const uint32_t root[] = {1, 0, 3, 4, 0, address_cells, 3, 4, 15, size_cells};
+    const uint32_t memory[] = {1, 0x6d000000, 3, 7, 27, 0x6d656d6f, 0x72790000, 3, reg_size, 39};
+    const uint32_t ends[] = {2, 1, 0x6e000000, 2, 2, 9};
+    size_t end = put_all(56, root, sizeof root / 4);
+    end = put_all(end, memory, sizeof memory / 4);
+    end = put_pairs(end, pairs, address_cells, size_cells);
+    end = put_all(end, ends, sizeof ends / 4);
+    const uint32_t length = (uint32_t)(end + sizeof strings);
+    const uint32_t header[] = {
+        0xd00dfeed, length, 56, (uint32_t)end, 40, 17, 16, 0, sizeof strings, (uint32_t)end - 56, 0, 0, 0, 0};
+    put_all(0, header, sizeof header / 4);
+    for (size_t i = 0; i < sizeof strings; i++) {
+        blob.start[end + i] = (uint8_t)strings[i];
+    }
+    if (once_in(2)) {
+        damage(length);
+    }
+    return length;
+}
+
 static void lend(struct buffer *buffer, size_t size, int aligned)
 {
     const uint64_t offset = below(8);
@@ -229,6 +314,19 @@ static uint64_t allow_range(const struct arguments *x)
 static uint64_t handle_range(const struct arguments *x)
 {
     return ritm_handle_range(AS(ritm_policy, policy), x->base, x->size, x->a % 33 / 16, x->b % 33 / 16);
+}
+
+/* Mostly the slice is the whole buffer; at times it is the blob alone or of any length, and once in 64 there is none.
+ */
+static uint64_t import_memory(const struct arguments *x)
+{
+    const size_t length = fill_blob();
+    const uint64_t shorter = once_in(2) ? length : below(BLOB_SIZE);
+    const uint64_t slice = once_in(4) ? shorter : BLOB_SIZE;
+    if (once_in(64)) {
+        return ritm_import_memory(AS(ritm_policy, policy), 0, 0, x->a);
+    }
+    return ritm_import_memory(AS(ritm_policy, policy), blob.start, slice, x->a);
 }
 
 static uint64_t find(const struct arguments *x)
@@ -327,6 +425,7 @@ static const struct call calls[] = {
     {fresh_policy, 1, {&policy}},
     {allow_range, 12, {&policy}},
     {handle_range, 12, {&policy}},
+    {import_memory, 8, {&policy, &blob}},
     {find, 3, {&policy, &found}},
     {fresh_cores, 1, {&cores}},
     {save, 12, {&cores, &registers}},
@@ -380,6 +479,7 @@ static void begin_list(int aligned)
     lend(&entry, RITM_ENTRY_RESULT_SIZE, aligned);
     lend(&access_result, RITM_ACCESS_RESULT_SIZE, aligned);
     lend(&word, RITM_WORD_RESULT_SIZE, aligned);
+    lend(&blob, BLOB_SIZE, aligned);
     if (!once_in(4)) {
         ritm_fresh_policy(AS(ritm_policy, policy));
         ritm_fresh_cores(AS(ritm_cores, cores));
@@ -392,6 +492,9 @@ static void count(const struct call *call, uint64_t answer)
 {
     if (call->make != buffer_size && answer < ANSWERS) {
         outcome.answers[answer]++;
+    }
+    if (call->make == import_memory && answer < ANSWERS) {
+        outcome.import_answers[answer]++;
     }
     if (call->make == trap) {
         outcome.trap_kinds[ritm_get_word(trapped.start, RITM_TRAP_KIND) % TRAP_KINDS]++;
@@ -410,7 +513,7 @@ static void make_call(void)
 
 struct outcome make_random_calls(uint64_t seed, uint64_t number_of_calls, int aligned)
 {
-    outcome = (struct outcome){{0}, {0}, 0, 0};
+    outcome = (struct outcome){{0}, {0}, {0}, 0, 0};
     state = seed;
     for (uint64_t i = 0; i < number_of_calls; i++) {
         if (i % LIST_LENGTH == 0) {

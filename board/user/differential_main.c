@@ -8,6 +8,7 @@
 #include <stdlib.h>
 
 #include "differential.h"
+#include "ritm.h"
 
 int main(int argc, char **argv)
 {
@@ -20,6 +21,11 @@ int main(int argc, char **argv)
     const struct outcome outcome = make_random_calls(seed, calls, 0);
     for (size_t answer = 0; answer < ANSWERS; answer++) {
         printf("answer %zu: %" PRIu64 "\n", answer, outcome.answers[answer]);
+    }
+    for (size_t answer = 0; answer < ANSWERS; answer++) {
+        if (answer <= RITM_ALLOWED_RANGE_OVERLAPS_MEMORY_ACCESS_HANDLER || answer >= RITM_INVALID_DEVICETREE) {
+            printf("import's answer %zu: %" PRIu64 "\n", answer, outcome.import_answers[answer]);
+        }
     }
     for (size_t kind = 0; kind < TRAP_KINDS; kind++) {
         printf("trap kind %zu: %" PRIu64 "\n", kind, outcome.trap_kinds[kind]);
