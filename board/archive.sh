@@ -6,9 +6,12 @@ CLANG=$KIT/$TOOLCHAIN/bin/clang
 TARGET=aarch64-none-elf
 WORK=$PWD/target/board
 
-# The module as it was proved, and as it is compiled for 64-bit Arm.
+# The module as it was proved, and as it is compiled for 64-bit Arm: in two parts, the import of a devicetree and all
+# other calls.
 MODULE=$WORK/x86_64.ll
 ARM_MODULE=$WORK/aarch64.ll
+IMPORT_MODULE=$WORK/import.ll
+CALLS_MODULE=$WORK/calls.ll
 
 # A host at EL2 saves no other registers of its guest.
 REGISTERS=-mgeneral-regs-only
@@ -37,7 +40,7 @@ KNOWN_WORDS='
     alloca load store getelementptr call ret br switch unreachable
     add sub mul udiv urem and or xor shl lshr ashr zext sext trunc icmp eq ne ult ule ugt uge slt sle sgt sge
     nounwind nocallback nofree willreturn memory argmem read write readwrite readonly writeonly captures none immarg
-    "probe-stack" "inline-asm"'
+    cold noreturn inaccessiblemem "probe-stack" "inline-asm"'
 
 # The words of a module: what is no comment, name, label, number or note, and no line that names the target.
 words_of() { # MODULE
@@ -50,7 +53,8 @@ check_module() { # MODULE
     printf '%s\n' $KNOWN_WORDS | sort >"$WORK/known"
     unknown=$(words_of "$1" | comm -23 - "$WORK/known" | tr '\n' ' ')
     [ -z "$unknown" ] || fail "the module has what may differ between the targets: $unknown"
-    others=$(grep '^declare' "$1" | grep -vE '@llvm\.mem(move\.p0\.p0|set\.p0)\.i64\(') &&
+    # llvm.trap stands where a division tests its divisor; check_object finds none left in an archive.
+    others=$(grep '^declare' "$1" | grep -vE '@llvm\.(mem(move\.p0\.p0|set\.p0)\.i64|trap)\(') &&
         fail "the module calls other code: $others"
     # AAPCS64 leaves the upper half of a 32-bit argument open, and no exported function may take it for extended.
     others=$(grep '^define' "$1" | grep -v '^define internal' |
@@ -59,9 +63,17 @@ check_module() { # MODULE
     return 0
 }
 
-# The functions that the header declares.
-declared() {
-    sed -n 's/^uint64_t \(ritm_[a-z_]*\)(.*/\1/p' include/ritm.h | sort
+# The part of the module that is not wanted is made internal, so that clang leaves it out. The import reads bytes and
+# copies records that are not made of 64-bit words: so that it needs no alignment, it is a part of its own.
+split_module() { # MODULE
+    sed '/@ritm_import_memory(/!s/^define noundef i64 @ritm_/define internal noundef i64 @ritm_/' "$1" >"$IMPORT_MODULE"
+    sed '/@ritm_import_memory(/s/^define noundef i64 @ritm_/define internal noundef i64 @ritm_/' "$1" >"$CALLS_MODULE"
+}
+
+# The functions that the header declares, of a part.
+declared() { # import|calls
+    sed -n 's/^uint64_t \(ritm_[a-z_]*\)(.*/\1/p' include/ritm.h |
+        if [ "$1" = import ]; then grep -x ritm_import_memory; else grep -vx ritm_import_memory; fi | sort
 }
 
 # The stack that a call takes at most: the largest frame of an exported function and those of all others.
@@ -79,27 +91,30 @@ disassemble() { # ARCHIVE FILE
     [ -s "$2" ] || fail "$1 has no instructions"
 }
 
-check_archive() { # ARCHIVE NEEDED MOST_STACK
+check_object() { # OBJECT import|calls NEEDED MOST_STACK
     "$WORK/kit/llvm-nm" --extern-only --defined-only "$1" | awk 'NF == 3 { print $3 }' | sort >"$WORK/defined"
-    declared | diff - "$WORK/defined" || fail "$1 does not define what include/ritm.h declares"
+    declared "$2" | diff - "$WORK/defined" || fail "$1 does not define what include/ritm.h declares"
     needed=$("$WORK/kit/llvm-nm" -u "$1" | awk '$1 == "U" { print $2 }' | sort | tr '\n' ' ')
-    [ "$needed" = "$2 " ] || fail "$1 needs $needed and not $2"
+    [ "$needed" = "$3 " ] || fail "$1 needs $needed and not $3"
     disassemble "$1" "$WORK/instructions"
     if grep -E '[[:space:],{[][bhsdqvz][0-9]+([^0-9]|$)' "$WORK/instructions"; then
         fail "$1 uses floating-point or vector registers"
     fi
+    if grep -E '^(brk|udf|hlt)' "$WORK/instructions"; then
+        fail "$1 has an instruction that traps"
+    fi
     stack=$(stack_of "$1")
     [ "$stack" -gt 0 ] || fail "$1 does not say what stack it takes"
-    [ "$stack" -le "$3" ] || fail "a call of $1 takes $stack bytes of stack, more than $3"
+    [ "$stack" -le "$4" ] || fail "a call of $1 takes $stack bytes of stack, more than $4"
     size=$("$WORK/kit/llvm-size" "$1" | awk 'NR == 2 && $2 + $3 == 0 { print $1 }')
     [ -n "$size" ] || fail "$1 has data of its own"
     count=$(grep -c . "$WORK/instructions")
-    echo "archive: ${1#"$WORK/"}: $size bytes in $count instructions, at most $stack bytes of stack, needs $2"
+    echo "archive: ${1#"$WORK/"}: $size bytes in $count instructions, at most $stack bytes of stack, needs $3"
 }
 
-# Every access of the archive, to the stack as to buffers, is of 64 bits, and where the offset is a number it is a
+# Every access of the object, to the stack as to buffers, is of 64 bits, and where the offset is a number it is a
 # multiple of 8. An offset in a register is seen at EL2 alone (board/run-el2).
-check_words_alone() { # ARCHIVE
+check_words_alone() { # OBJECT
     disassemble "$1" "$WORK/instructions"
     narrow='^(ld|st)[a-z]*(b|h|sw)[[:space:]]|^(ld|st)[a-z0-9]*[[:space:]]w'
     between='^(ld|st).*#-?0x[0-9a-f]*[1-79a-f](\]|$)'

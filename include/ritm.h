@@ -12,9 +12,10 @@
  * elsewhere must be aligned to 8 too for the archive for 64-bit Arm, whose accesses are of 64 bits at multiples of 8
  * from the buffer's start, or the processor must take accesses at any address (at EL2: the buffer in normal memory, the
  * MMU on, SCTLR_EL2.A clear). The strict archive for 64-bit Arm and the one for x86-64 take a buffer anywhere
- * (board/README.md).
+ * (board/README.md). So does ritm_import_memory of every archive, with its policy and its blob.
  *
- * Other code. Of other code the archive calls memcpy and memset alone.
+ * Other code. Of other code the archive calls memcpy and memset alone; the one for 64-bit Arm calls memcpy in
+ * ritm_import_memory alone.
  *
  * Several processors. The archive has no data of its own, so calls on different buffers may run at the same time. Calls
  * on the same buffer may only where all of them take it as const: a policy that nothing changes any more may be shared
@@ -320,11 +321,11 @@ uint64_t ritm_handle_range(struct ritm_policy *policy, uint64_t base_ipa, uint64
  * Refusals: 21; 22; then that of the first pair that is refused, 1 to 7. A size of 0, as in a blob whose memory a boot
  * loader has yet to fill in, is 2.
  *
- * The blob may stand at any address, and length may be more than the blob's own totalsize: what follows totalsize is
- * not read. A blob above 65,536 bytes is 21, and so is length 0, for which alone blob may be null.
+ * The blob may stand at any address, and length may be more than the blob's own totalsize, and than 64 KiB: what
+ * follows totalsize is not read. A totalsize above 65,536 is 21, and so is length 0, for which alone blob may be null.
  *
- * 21 is also a blob whose names and values are not filled up with zero bytes. Those that QEMU makes are not, besides
- * having a totalsize of 1 MiB, which fdt_pack alone lowers: write such a blob anew first, with dtc -I dtb -O dtb.
+ * A blob straight from QEMU is refused with 21: its totalsize is 1 MiB, and some of its values are not filled up with
+ * zero bytes, which fdt_pack leaves so. A host writes it anew first, with dtc -I dtb -O dtb.
  */
 uint64_t ritm_import_memory(struct ritm_policy *policy, const void *blob, uint64_t length, uint64_t attributes);
 

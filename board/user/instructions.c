@@ -1,5 +1,5 @@
 /* Calls between two calls of mark, so that board/instructions can count what is executed between. The rows are those of
-   docs/PERFORMANCE.md: each has its state prepared first. */
+   docs/PERFORMANCE.md: each has its state prepared first. Its argument is the blob that is imported. */
 #include <stdio.h>
 
 #include "ritm.h"
@@ -26,6 +26,7 @@ static struct ritm_find_result found;
 static struct ritm_entry_result entry;
 static struct ritm_access_result access_result;
 static struct ritm_word_result word;
+static uint64_t blob[65536 / 8];
 
 __attribute__((noinline)) void mark(void)
 {
@@ -119,12 +120,27 @@ static void count_map_and_parts(void)
     COUNT("align_up", ritm_align_up_to_page(4097, &word));
 }
 
-int main(void)
+static int count_import(const char *name)
+{
+    FILE *file = fopen(name, "rb");
+    if (file == NULL) {
+        perror(name);
+        return 1;
+    }
+    const size_t length = fread(blob, 1, sizeof blob, file);
+    fclose(file);
+    uint64_t number = 0;
+    ritm_fresh_policy(&policy);
+    COUNT("import", number = ritm_import_memory(&policy, blob, length, 0));
+    return number != RITM_ACCEPTED;
+}
+
+int main(int argc, char **argv)
 {
     count_traps();
     count_calls();
     count_policy();
     count_map_and_parts();
     COUNT("fresh_cores", ritm_fresh_cores(&cores));
-    return 0;
+    return count_import(argc > 1 ? argv[1] : "");
 }
