@@ -40,7 +40,7 @@ KNOWN_WORDS='
     alloca load store getelementptr call ret br switch unreachable
     add sub mul udiv urem and or xor shl lshr ashr zext sext trunc icmp eq ne ult ule ugt uge slt sle sgt sge
     nounwind nocallback nofree willreturn memory argmem read write readwrite readonly writeonly captures none immarg
-    cold noreturn inaccessiblemem "probe-stack" "inline-asm"'
+    "probe-stack" "inline-asm"'
 
 # The words of a module: what is no comment, name, label, number or note, and no line that names the target.
 words_of() { # MODULE
@@ -53,8 +53,7 @@ check_module() { # MODULE
     printf '%s\n' $KNOWN_WORDS | sort >"$WORK/known"
     unknown=$(words_of "$1" | comm -23 - "$WORK/known" | tr '\n' ' ')
     [ -z "$unknown" ] || fail "the module has what may differ between the targets: $unknown"
-    # llvm.trap stands where a division tests its divisor; check_object finds none left in an archive.
-    others=$(grep '^declare' "$1" | grep -vE '@llvm\.(mem(move\.p0\.p0|set\.p0)\.i64|trap)\(') &&
+    others=$(grep '^declare' "$1" | grep -vE '@llvm\.mem(move\.p0\.p0|set\.p0)\.i64\(') &&
         fail "the module calls other code: $others"
     # AAPCS64 leaves the upper half of a 32-bit argument open, and no exported function may take it for extended.
     others=$(grep '^define' "$1" | grep -v '^define internal' |

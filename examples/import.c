@@ -12,7 +12,7 @@
 
 #include "ritm.h"
 
-/* The longest blob that is read. Of a longer file the rest is not needed: it is padding or the blob is refused. */
+/* The longest blob that is accepted. Of a longer file the rest is not needed: no import reads it. */
 #define MOST_BYTES 65536
 
 /* Stage-2 descriptors (Arm DDI 0487): valid, read and write, access flag, write-back and inner shareable. */
@@ -75,8 +75,7 @@ static void print_ranges(const struct ritm_policy *policy)
 
 int main(int argc, char **argv)
 {
-    /* A blob that is aligned to 8 is read by every archive on every host. */
-    static uint64_t blob[MOST_BYTES / 8];
+    static uint8_t blob[MOST_BYTES];
     static struct ritm_policy policy;
     const char *name = argc > 1 ? argv[1] : "-";
     const long length = read_file(name, blob, sizeof blob);
