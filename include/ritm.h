@@ -321,8 +321,9 @@ uint64_t ritm_handle_range(struct ritm_policy *policy, uint64_t base_ipa, uint64
  * Refusals: 21; 22; then that of the first pair that is refused, 1 to 7. A size of 0, as in a blob whose memory a boot
  * loader has yet to fill in, is 2.
  *
- * The blob may stand at any address, and length may be more than the blob's own totalsize, and than 64 KiB: what
- * follows totalsize is not read. A totalsize above 65,536 is 21, and so is length 0, for which alone blob may be null.
+ * The blob may stand at any address, but not over the policy. Of its length bytes only the first totalsize are read, so
+ * that length may be more than totalsize and than 64 KiB. A totalsize above 65,536 is 21, and so is length 0, for which
+ * alone blob may be null.
  *
  * A blob straight from QEMU is refused with 21: its totalsize is 1 MiB, and some of its values are not filled up with
  * zero bytes, which fdt_pack leaves so. A host writes it anew first, with dtc -I dtb -O dtb.
