@@ -466,7 +466,7 @@ static const struct call *choose(void)
 }
 
 /* Every list begins with buffers at new places, once in four with any bytes in them, and else fresh but for the
-   filtered MMIO page. */
+   filtered MMIO page. Every archive takes a blob anywhere. */
 static void begin_list(int aligned)
 {
     lend(&policy, RITM_POLICY_SIZE, aligned);
@@ -479,7 +479,7 @@ static void begin_list(int aligned)
     lend(&entry, RITM_ENTRY_RESULT_SIZE, aligned);
     lend(&access_result, RITM_ACCESS_RESULT_SIZE, aligned);
     lend(&word, RITM_WORD_RESULT_SIZE, aligned);
-    lend(&blob, BLOB_SIZE, aligned);
+    lend(&blob, BLOB_SIZE, 0);
     if (!once_in(4)) {
         ritm_fresh_policy(AS(ritm_policy, policy));
         ritm_fresh_cores(AS(ritm_cores, cores));

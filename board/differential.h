@@ -18,7 +18,8 @@ struct outcome {
     uint64_t changed_beside;
 };
 
-/* Makes calls on buffers that stand at multiples of 16, or anywhere. Where they stand changes no call. */
+/* Makes calls on buffers that stand at multiples of 16, but for blobs; or anywhere. Where they stand changes no call.
+ */
 struct outcome make_random_calls(uint64_t seed, uint64_t calls, int aligned);
 
 #endif
