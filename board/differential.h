@@ -18,8 +18,7 @@ struct outcome {
     uint64_t changed_beside;
 };
 
-/* Makes calls on buffers that stand at multiples of 16, but for blobs; or anywhere. Where they stand changes no call.
- */
+/* Makes calls on buffers that stand at multiples of 16, all but blobs, or anywhere. That changes no call. */
 struct outcome make_random_calls(uint64_t seed, uint64_t calls, int aligned);
 
 #endif
