@@ -22,7 +22,7 @@ use Rattle.fdt_nodes.specs.Scan.{judged, hit}
 use Rattle.fdt_nodes.specs.declared.Verdict.the-variants.{Invalid}
 use Rattle.fdt_nodes.proofs.Laws.{whole}
 use Rattle.fdt.specs.Passes.{lexAt, folded, cellsAt, pairOf, pairAt, pairsAt, regPairs, pairsMet, pairsFrom, leftIn, handed}
-use Rattle.fdt.specs.Blob.{zeroEntry, listEnds, part, insideOf, pairsLeft}
+use Rattle.fdt.specs.Blob.{zeroEntry, listEnds, blockOf, stringsOf, insideOf, pairsLeft}
 use Rattle.fdt_nodes.specs.declared.Nodes.{Nodes}
 use Rattle.fdt_nodes.specs.declared.Scan.{Scan}
 use Rattle.fdt.specs.declared.Walk.{Walk}
@@ -237,22 +237,22 @@ inside-is n from to h = go (ltb 65536 to) (ltb n to) (ltb to from) refl refl ref
   go false false true e f g k = impossible k
 
 module _ (s : List ℕ) (c : Cursor) where
-  abbrev pub Inside : Bool → Type 0
-  Inside t = insideOf (length s) (c .blocks .block .from) (c .blocks .block .to) ≡ t
+  abbrev pub InsideBlock : Bool → Type 0
+  InsideBlock t = insideOf (length s) (c .blocks .block .from) (c .blocks .block .to) ≡ t
 
   abbrev pub InsideStrings : Bool → Type 0
   InsideStrings t = insideOf (length s) (c .blocks .strings .from) (c .blocks .strings .to) ≡ t
 
-  pub left-outside : Inside false → pairsLeft s c ≡ []
+  pub left-outside : InsideBlock false → pairsLeft s c ≡ []
   unfolding pairsLeft
   left-outside h = rw h
 
-  pub left-outside-strings : Inside true → InsideStrings false → pairsLeft s c ≡ []
+  pub left-outside-strings : InsideBlock true → InsideStrings false → pairsLeft s c ≡ []
   unfolding pairsLeft
   left-outside-strings h k = rw (h, k)
 
-  pub left-inside : (t : Handed) → Inside true → InsideStrings true
-      → HandsOut (part s (c .blocks .block .from) (c .blocks .block .to)) (part s (c .blocks .strings .from) (c .blocks .strings .to)) (c .walk) t
+  pub left-inside : (t : Handed) → InsideBlock true → InsideStrings true
+      → HandsOut (blockOf s (c .blocks)) (stringsOf s (c .blocks)) (c .walk) t
       → pairsLeft s c ≡ cond (t .found) (pairOf (t .base) (t .size) ∷ pairsLeft s (record { blocks = c .blocks; walk = t .walk })) []
   unfolding pairsLeft
   left-inside t h k e = rw (h, k) e

@@ -1,5 +1,5 @@
 -- The blob: header, reservation list, blocks, and what the answer is. Assumes nothing.
-use Prim.Native.Nat.{ℕ, zero, suc, _+_, _-_, _/_, _%_}
+use Prim.Native.Nat.{ℕ, zero, suc, _+_, _-_, _/_, _%_, _≤_}
 use mathlib.Core.Bool.{Bool, true, false, cond}
 use mathlib.Core.List.{List, []}
 use lib.Dec.{ltb, eqb}
@@ -11,6 +11,7 @@ use Rattle.fdt_nodes.specs.declared.Verdict.the-variants as verdict
 use Rattle.fdt_nodes.specs.Scan.{started}
 use Rattle.fdt.specs.Passes.{judgedBlock, leftIn}
 use Rattle.fdt.specs.declared.Walk.{Walk}
+use Rattle.fdt.specs.declared.Part.{Part}
 use Rattle.fdt.specs.declared.Blocks.{Blocks}
 use Rattle.fdt.specs.declared.Cursor.{Cursor}
 use Rattle.fdt.specs.declared.Memory.{Memory}
@@ -48,6 +49,13 @@ headerOk s total =
 abbrev pub part : List ℕ → ℕ → ℕ → List ℕ
 part s from to = take (to - from) (drop from s)
 
+-- the structure block and the strings block
+abbrev pub blockOf : List ℕ → Blocks → List ℕ
+blockOf s b = part s (b .block .from) (b .block .to)
+
+abbrev pub stringsOf : List ℕ → Blocks → List ℕ
+stringsOf s b = part s (b .strings .from) (b .strings .to)
+
 -- the first pass decides whether there are pairs, and these blocks have them
 unfoldable pub memoryBy : Verdict → Blocks → Memory
 memoryBy verdict.Accepted b = Pairs (cursorAt b)
@@ -56,7 +64,7 @@ memoryBy verdict.UnsupportedCellCounts b = UnsupportedCellCounts
 
 -- the answer of the blocks at some places
 unfoldable pub blocksMemory : List ℕ → Blocks → Memory
-blocksMemory s b = memoryBy (judgedBlock (part s (b .block .from) (b .block .to)) (part s (b .strings .from) (b .strings .to))) b
+blocksMemory s b = memoryBy (judgedBlock (blockOf s b) (stringsOf s b)) b
 
 unfoldable pub blobMemory : List ℕ → ℕ → Memory
 blobMemory s total =
@@ -74,15 +82,20 @@ memoryOf s =
     (cond (ltb (length s) (wordAt s 4)) Invalid
     (blobMemory s (wordAt s 4)))))
 
+-- a part that lies in `n` bytes, and ends at 64 KiB at most
 unfoldable pub insideOf : ℕ → ℕ → ℕ → Bool
 insideOf n from to = cond (ltb 65536 to) false (cond (ltb n to) false (cond (ltb to from) false true))
+
+-- the same of a slice, in sentences
+abbrev pub Inside : List ℕ → Part → Type 0
+Inside s p = (p .to ≤ 65536) × ((p .to ≤ length s) × (p .from ≤ p .to))
 
 -- the pairs left at a cursor; a cursor that is not of this slice may have none
 unfoldable pub pairsLeft : List ℕ → Cursor → List Pair
 pairsLeft s c =
     cond (insideOf (length s) (c .blocks .block .from) (c .blocks .block .to))
     (cond (insideOf (length s) (c .blocks .strings .from) (c .blocks .strings .to))
-    (leftIn (part s (c .blocks .block .from) (c .blocks .block .to)) (part s (c .blocks .strings .from) (c .blocks .strings .to)) (c .walk))
+    (leftIn (blockOf s (c .blocks)) (stringsOf s (c .blocks)) (c .walk))
     []) []
 
 -- a slice's memory as an answer, with all the pairs that are left at its cursor

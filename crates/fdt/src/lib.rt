@@ -6,7 +6,7 @@ ghost use mathlib.Core.List.{[], _∷_, _++_};
 ghost use Prim.Native.Nat.{_+_, _-_, _/_, _^_, _≤_, _<_};
 ghost use lib.ListN.{length, drop};
 ghost use Rattle.fdt.specs.Passes.{lexAt, judgedBlock, cellsAt, regPairs, pairOf, pairsFrom, leftIn, handed};
-ghost use Rattle.fdt.specs.Blob.{zeroEntry, listEnds, headerOk, memoryBy, blobMemory, memoryOf, insideOf, pairsLeft};
+ghost use Rattle.fdt.specs.Blob.{zeroEntry, listEnds, headerOk, memoryBy, blobMemory, memoryOf, blockOf, stringsOf, insideOf, Inside, pairsLeft};
 use fdt_nodes::Scan;
 use fdt_nodes::Verdict;
 use fdt_nodes::at_pair;
@@ -384,23 +384,31 @@ fn nothing(cursor: Cursor) -> Next
     }
 }
 
+// The next pair of two blocks of the slice.
+fn next_of(s: &[u8], blocks: Blocks, walk: Walk) -> Handed
+    requires { ⌜ Inside (now s) (blocks .block) × Inside (now s) (blocks .strings) ⌝ }
+    ensures { λ r. ⌜ leftIn (blockOf (now (s .entry)) blocks) (stringsOf (now (s .entry)) blocks) walk ≡ cond (r .found) (pairOf (r .base) (r .size) ∷ leftIn (blockOf (now (s .entry)) blocks) (stringsOf (now (s .entry)) blocks) (r .walk)) [] ⌝ }
+{
+    let struct_at = blocks.block.from;
+    let struct_end = blocks.block.to;
+    let strings_at = blocks.strings.from;
+    let strings_end = blocks.strings.to;
+    next_in(&s[struct_at..struct_end], &s[strings_at..strings_end], walk)
+}
+
 // The next pair of the slice that the cursor was made for. Of another slice it hands out something, or nothing.
 pub fn next_pair(s: &[u8], cursor: Cursor) -> Next
     ensures { λ r. ⌜ pairsLeft (now (s .entry)) cursor ≡ cond (r .found) (pairOf (r .base) (r .size) ∷ pairsLeft (now (s .entry)) (r .cursor)) [] ⌝ }
 {
     let blocks = cursor.blocks;
     let walk = cursor.walk;
-    let struct_at = blocks.block.from;
-    let struct_end = blocks.block.to;
-    let strings_at = blocks.strings.from;
-    let strings_end = blocks.strings.to;
-    if !inside(s.len(), struct_at, struct_end) {
+    if !inside(s.len(), blocks.block.from, blocks.block.to) {
         return nothing(cursor);
     }
-    if !inside(s.len(), strings_at, strings_end) {
+    if !inside(s.len(), blocks.strings.from, blocks.strings.to) {
         return nothing(cursor);
     }
-    let r = next_in(&s[struct_at..struct_end], &s[strings_at..strings_end], walk);
+    let r = next_of(s, blocks, walk);
     let w = r.walk;
     Next {
         found: r.found,

@@ -1,5 +1,5 @@
--- A worked value: a blob made by dtc (two cells each, reg before device_type, a deeper memory node, a reservation), its answer by computation,
--- and so a tree that it is a blob of. Assumes nothing.
+-- A worked value: tests/devicetree/board.dtb, which dtc made (two cells each, reg before device_type, a deeper memory node, a reservation).
+-- Assumes nothing.
 use Prim.Native.Nat.{ℕ}
 use mathlib.Core.Path.{_≡_, refl, sym, _∙_, ap}
 use native.Mathlib.Omega.{arith}
@@ -32,12 +32,19 @@ dtc =
     45 ∷ 99 ∷ 101 ∷ 108 ∷ 108 ∷ 115 ∷ 0 ∷ 35 ∷ 115 ∷ 105 ∷ 122 ∷ 101 ∷ 45 ∷ 99 ∷ 101 ∷ 108 ∷ 108 ∷ 115 ∷ 0 ∷ 109 ∷ 111 ∷ 100 ∷ 101 ∷ 108 ∷ 0 ∷ 100 ∷ 101 ∷ 118 ∷ 105 ∷ 99 ∷ 101 ∷ 95 ∷ 116 ∷ 121 ∷ 112 ∷ 101 ∷ 0 ∷ 114 ∷ 101 ∷ 103 ∷
     0 ∷ []
 
-pub dtc-answer : answerOf dtc ≡ dt.pairs (record { base = 1073741824; size = 134217728 } ∷ record { base = 4294967296; size = 4096 } ∷ record { base = 1610612736; size = 8192 } ∷ [])
+-- the pairs of its two memory children
+abbrev pub board : List dt.Pair
+board =
+    record { base = 0x40000000; size = 0x8000000 }
+    ∷ record { base = 0x100000000; size = 0x1000 }
+    ∷ record { base = 0x60000000; size = 0x2000 }
+    ∷ []
+
+-- what the reader answers, by computation
+pub dtc-answer : answerOf dtc ≡ dt.pairs board
 unfolding answerOf pairsLeft insideOf memoryOf blobMemory blocksMemory headerOk listEnds zeroEntry memoryBy answerIn leftIn pairsFrom pairsMet regPairs pairsAt cellsAt judgedBlock folded hit hasPair judged started advance ended property childProperty rootProperty endNode childEnd beginNode raggedReg pairBytes width flag isMemory badNodes cellAt firstNamed firstOf read put isDone lexWord tokenWord valueWord nameWord begins wordAt oneOrTwo hasZero
 dtc-answer = refl
 
--- a tree that it is a blob of says so
-pub dtc-said : Says dtc (answerOf dtc)
-dtc-said = answer-said dtc (answerOf dtc) refl (λ e. never (sym dtc-answer ∙ e)) where
-  never : {ps : List dt.Pair} → dt.pairs ps ≡ dt.invalid → ⊥
-  never h = true≢false (sym (ap isInvalid h))
+-- so there is a tree that it is a blob of, and the tree says these pairs
+pub dtc-said : Says dtc (dt.pairs board)
+dtc-said = answer-said dtc (dt.pairs board) dtc-answer (λ h. true≢false (sym (ap isInvalid h)))

@@ -14,7 +14,7 @@ use Rattle.fdt_tokens.specs.Bytes.{wordAt}
 use Rattle.fdt_tokens.proofs.Laws.{impossible}
 use Rattle.fdt_nodes.specs.Scan.{started}
 use Rattle.fdt.specs.Passes.{judgedBlock, pairsFrom, pairsAt, leftIn}
-use Rattle.fdt.specs.Blob.{part, blocksAt, cursorAt, listEnds, headerOk, memoryBy, blocksMemory, blobMemory, memoryOf, insideOf, pairsLeft, answerIn, answerOf}
+use Rattle.fdt.specs.Blob.{part, blockOf, stringsOf, blocksAt, cursorAt, listEnds, headerOk, memoryBy, blocksMemory, blobMemory, memoryOf, insideOf, pairsLeft, answerIn, answerOf}
 use Rattle.fdt.specs.declared.Memory.{Memory}
 use Rattle.fdt.specs.declared.Memory.the-variants.{Invalid}
 use Rattle.fdt_nodes.specs.declared.Verdict.{Verdict}
@@ -131,20 +131,13 @@ inside : (n from to : ℕ) → to ≤ 65536 → to ≤ n → from ≤ to → ins
 unfolding insideOf
 inside n from to a b c = rw (le-ltb 65536 to a, le-ltb n to b, le-ltb to from c)
 
--- the two blocks at some places
-abbrev structIn : List ℕ → Blocks → List ℕ
-structIn s b = part s (b .block .from) (b .block .to)
-
-abbrev stringsIn : List ℕ → Blocks → List ℕ
-stringsIn s b = part s (b .strings .from) (b .strings .to)
-
 -- the answer of the blocks is that of the structure block, read to its end
 blocks-answered : (s : List ℕ) (b : Blocks) → insideOf (length s) (b .block .from) (b .block .to) ≡ true → insideOf (length s) (b .strings .from) (b .strings .to) ≡ true
     → answerIn s (blocksMemory s b)
-    ≡ answered (judgedBlock (structIn s b) (stringsIn s b)) (pairsFrom (structIn s b) (stringsIn s b) 0 Token (started .nodes) (structIn s b))
+    ≡ answered (judgedBlock (blockOf s b) (stringsOf s b)) (pairsFrom (blockOf s b) (stringsOf s b) 0 Token (started .nodes) (blockOf s b))
 unfolding blocksMemory memoryBy answerIn
-blocks-answered s b h k = go (judgedBlock (structIn s b) (stringsIn s b)) where
-  go : (v : Verdict) → answerIn s (memoryBy v b) ≡ answered v (pairsFrom (structIn s b) (stringsIn s b) 0 Token (started .nodes) (structIn s b))
+blocks-answered s b h k = go (judgedBlock (blockOf s b) (stringsOf s b)) where
+  go : (v : Verdict) → answerIn s (memoryBy v b) ≡ answered v (pairsFrom (blockOf s b) (stringsOf s b) 0 Token (started .nodes) (blockOf s b))
   go verdict.Accepted = ap (λ ps. dt.pairs ps) (first-pairs s b h k)
   go verdict.Invalid = refl
   go verdict.UnsupportedCellCounts = refl
@@ -194,13 +187,13 @@ tested-strings s x =
     inside (length s) (wordAt s 12) (wordAt s 12 + wordAt s 32) (omega arith) (omega arith) (omega arith)
 
 -- the blocks as the reader takes them
-abbrev structOf : List ℕ → List ℕ
-structOf s = part s (wordAt s 8) (wordAt s 8 + wordAt s 36)
+abbrev structBlock : List ℕ → List ℕ
+structBlock s = blockOf s (blocksOf s)
 
-abbrev stringsOf : List ℕ → List ℕ
-stringsOf s = part s (wordAt s 12) (wordAt s 12 + wordAt s 32)
+abbrev stringsBlock : List ℕ → List ℕ
+stringsBlock s = stringsOf s (blocksOf s)
 
-tested-answer : (s : List ℕ) → Tested s → answerOf s ≡ answered (judgedBlock (structOf s) (stringsOf s)) (pairsFrom (structOf s) (stringsOf s) 0 Token (started .nodes) (structOf s))
+tested-answer : (s : List ℕ) → Tested s → answerOf s ≡ answered (judgedBlock (structBlock s) (stringsBlock s)) (pairsFrom (structBlock s) (stringsBlock s) 0 Token (started .nodes) (structBlock s))
 unfolding answerOf
 tested-answer s x = ap (λ m. answerIn s m) (tested-memory s x) ∙ blocks-answered s (blocksOf s) (tested-struct s x) (tested-strings s x)
 
@@ -214,7 +207,7 @@ blob-answered s t x =
     let p = part-is s b r (wordAt s 8) (wordAt s 36) (x .front) (field-is s b r 8 (x .front) (omega arith)) (field-is s b r 36 (x .front) (omega arith)) (x .struct-inside) in
     let q = part-is s b r (wordAt s 12) (wordAt s 32) (x .front) (field-is s b r 12 (x .front) (omega arith)) (field-is s b r 32 (x .front) (omega arith)) (x .strings-inside) in
     tested-answer s y
-    ∙ (ap (λ B. answered (judgedBlock B (stringsOf s)) (pairsFrom B (stringsOf s) 0 Token (started .nodes) B)) p
+    ∙ (ap (λ B. answered (judgedBlock B (stringsBlock s)) (pairsFrom B (stringsBlock s) 0 Token (started .nodes) B)) p
     ∙ (ap (λ S. answered (judgedBlock (span b (field b 8) (field b 36)) S) (pairsFrom (span b (field b 8) (field b 36)) S 0 Token (started .nodes) (span b (field b 8) (field b 36)))) q
     ∙ block-answered (span b (field b 8) (field b 36)) (span b (field b 12) (field b 32)) (short-part b (field b 36) (field b 8) (omega arith)) t (x .struct)))
 
@@ -224,12 +217,12 @@ pub record Blob (s : List ℕ) : Type 0 where
   pub is : BlobOf s tree
 
 -- blocks that are invalid make the slice so
-blocks-invalid : (s : List ℕ) (b : Blocks) → judgedBlock (structIn s b) (stringsIn s b) ≡ verdict.Invalid → blocksMemory s b ≡ Invalid
+blocks-invalid : (s : List ℕ) (b : Blocks) → judgedBlock (blockOf s b) (stringsOf s b) ≡ verdict.Invalid → blocksMemory s b ≡ Invalid
 unfolding blocksMemory memoryBy
 blocks-invalid s b e = ap (λ v. memoryBy v b) e
 
 -- a slice that passes the tests is a header and two blocks
-tested-blob : (s : List ℕ) → Tested s → Formed (stringsOf s) (structOf s) → Blob s
+tested-blob : (s : List ℕ) → Tested s → Formed (stringsBlock s) (structBlock s) → Blob s
 tested-blob s x f =
     let n = wordAt s 4 in let w = x .whole in
     let b = take n s in let r = drop n s in
@@ -260,7 +253,7 @@ tested-blob s x f =
         struct-inside = omega arith;
         strings-inside = omega arith;
         struct = subst (λ B. Tokens (span b (field b 12) (field b 32)) B (tokensOf (dt.node (f .tree .properties) (f .tree .children) dt.none))) p
-            (subst (λ S. Tokens S (structOf s) (tokensOf (dt.node (f .tree .properties) (f .tree .children) dt.none))) q (f .reads));
+            (subst (λ S. Tokens S (structBlock s) (tokensOf (dt.node (f .tree .properties) (f .tree .children) dt.none))) q (f .reads));
       };
     }
 
@@ -270,7 +263,7 @@ unfolding answerOf answerIn
 valid-blob s h =
     let valid : memoryOf s ≡ Invalid → ⊥ = λ e. h (ap (λ m. answerIn s m) e) in
     let x = valid-tested s valid in let a = x .most in let b = x .struct-inside in
-    tested-blob s x (block-formed (structOf s) (stringsOf s) (short-part s (wordAt s 8 + wordAt s 36 - wordAt s 8) (wordAt s 8) (omega arith))
+    tested-blob s x (block-formed (structBlock s) (stringsBlock s) (short-part s (wordAt s 8 + wordAt s 36 - wordAt s 8) (wordAt s 8) (omega arith))
     (λ e. valid (tested-memory s x ∙ blocks-invalid s (blocksOf s) e)))
 
 abbrev pub isInvalid : dt.Answer → Bool
