@@ -291,7 +291,7 @@ invalid-if s h = go (judge (answerOf s)) where
 pub invalid-only : (s : List ℕ) → answerOf s ≡ dt.invalid → (t : Tree) → BlobOf s t → says t ≡ dt.invalid
 invalid-only s e t x = sym (blob-answered s t x) ∙ e
 
--- Any other answer, 22 or 0 with its pairs, is given exactly where some tree that the slice is a blob of says so (the other way is theorem 2).
+-- Any other answer, 22 or 0 with its pairs, is given exactly where some tree that the slice is a blob of says so.
 pub record Says (s : List ℕ) (a : dt.Answer) : Type 0 where
   pub tree : Tree
   pub is : BlobOf s tree
@@ -301,6 +301,9 @@ pub answer-said : (s : List ℕ) (a : dt.Answer) → answerOf s ≡ a → (a ≡
 answer-said s a e h =
     let b = valid-blob s (λ n. h (sym e ∙ n)) in
     record { tree = b .tree; is = b .is; says-so = sym (blob-answered s (b .tree) (b .is)) ∙ e }
+
+pub said-answer : (s : List ℕ) (a : dt.Answer) → Says s a → answerOf s ≡ a
+said-answer s a x = blob-answered s (x .tree) (x .is) ∙ x .says-so
 
 -- a blob stays one whatever follows it
 blob-moves : (b r r′ : List ℕ) (t : Tree) → 40 ≤ length b → field b 4 ≡ length b → BlobOf (b ++ r) t → BlobOf (b ++ r′) t

@@ -15,6 +15,7 @@ use Rattle.stage2.specs.Builds.{BuilderCall, build, buildAll, WellFormed}
 use Rattle.stage2.proofs.Laws.{built-answer, built-refused, build-refused}
 use Rattle.stage2.proofs.WellFormed.{build-keeps, build-all-keeps, fresh-well-formed}
 use Rattle.memory_import.specs.Import.{allowCalls, readingOf, pairsIn, reading, importCalls, answerOfAll, importAnswer, importMemory}
+use Rattle.memory_import.proofs.Laws.{refused}
 use Rattle.memory_import.specs.Changes.{PolicyCall, builder, import-memory, change, changeAll, takenApart, readFirst}
 
 -- one list of builder calls after another
@@ -116,3 +117,27 @@ apart-accepted p (import-memory blob attributes) h = go (reading blob) refl
         × (builtBy (after r (answerOfAll p calls)) p (buildAll p calls) .policy ≡ buildAll p calls)
     go Accepted e = rw (all-accepted calls p h) (refl, refl)
     go (Refused x) e = (refl, rw (refused-none blob attributes x e))
+
+-- An import, in sentences: refused by the reader, that refusal and the policy given;
+pub import-unread : (p : Policy) (blob : List ℕ) (attributes : ℕ) (e : Stage2ConfigError) → reading blob ≡ Refused e
+    → importMemory p blob attributes ≡ refused p e
+unfolding importMemory importAnswer
+import-unread p blob attributes e h = rw h
+
+-- else, where the calls of all pairs are accepted one by one, accepted with their policy;
+pub import-all : (p : Policy) (blob : List ℕ) (attributes : ℕ) → reading blob ≡ Accepted → AllBuilt p (importCalls blob attributes)
+    → importMemory p blob attributes ≡ record { answer = Accepted; policy = buildAll p (importCalls blob attributes) }
+unfolding importMemory importAnswer
+import-all p blob attributes h a = rw (h, all-accepted (importCalls blob attributes) p a)
+
+-- and where one is refused after others that are accepted, its refusal and the policy given.
+first-refused : (before : List BuilderCall) (c : BuilderCall) (later : List BuilderCall) (p : Policy) (e : Stage2ConfigError) → AllBuilt p before
+    → build (buildAll p before) c .answer ≡ Refused e → answerOfAll p (before ++ (c ∷ later)) ≡ Refused e
+first-refused [] c later p e a h = rw h
+first-refused (b ∷ bs) c later p e a h = rw (a .0) (first-refused bs c later (build p b .policy) e (a .1) h)
+
+pub import-first : (p : Policy) (blob : List ℕ) (attributes : ℕ) (before : List BuilderCall) (c : BuilderCall) (later : List BuilderCall)
+    (e : Stage2ConfigError) → reading blob ≡ Accepted → importCalls blob attributes ≡ before ++ (c ∷ later) → AllBuilt p before
+    → build (buildAll p before) c .answer ≡ Refused e → importMemory p blob attributes ≡ refused p e
+unfolding importMemory importAnswer
+import-first p blob attributes before c later e h calls a refusal = rw (h, calls, first-refused before c later p e a refusal)
