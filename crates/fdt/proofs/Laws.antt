@@ -1,27 +1,27 @@
 -- Laws of the loops, by places of a list. Assumes nothing.
-use Prim.Native.Nat.{ℕ, zero, suc, _+_, _-_, _*_, _/_, _%_, _^_, _≤_, _<_}
+use Prim.Native.Nat.{ℕ, zero, suc, _+_, _-_, _*_, _/_, _≤_, _<_}
 use mathlib.Core.Path.{_≡_, refl, sym, _∙_, ap, subst}
 use mathlib.Core.Bool.{Bool, true, false, cond}
 use mathlib.Core.List.{List, [], _∷_, _++_}
 use native.Mathlib.Omega.{arith}
-use native.Mathlib.Numerals.{add-one, sub-one}
-use lib.ListN.{length, drop, getD, length-drop}
+use native.Mathlib.Numerals.{sub-one}
+use lib.ListN.{length, drop, length-drop}
 use lib.Dec.{ltb}
 use borrow.Author.Tests.{ltb-false}
 use Rattle.fdt_tokens.specs.Devicetree.{Pair}
-use Rattle.fdt_tokens.specs.Lex.{isDone, isToken, lexWord, Placed, Reading, put, read}
+use Rattle.fdt_tokens.specs.Lex.{isDone, isToken, lexWord, Reading, put, read}
 use Rattle.fdt_tokens.specs.declared.Lexer.{Lexer}
 use Rattle.fdt_tokens.specs.declared.Lexed.{Lexed}
-use Rattle.fdt_tokens.specs.declared.Lexer.the-variants.{Token, Broken}
+use Rattle.fdt_tokens.specs.declared.Lexer.the-variants.{Broken}
 use Rattle.fdt_tokens.specs.declared.Event.{Event}
 use Rattle.fdt_tokens.specs.declared.Event.the-variants.{Nothing, Begin, EndNode, Prop, End}
 use Rattle.fdt_tokens.proofs.Laws.{impossible, drop-end, drop-four}
 use Rattle.fdt_tokens.proofs.Lexing.{put-lexer}
-use Rattle.fdt_nodes.specs.Nodes.{advance, pairBytes, width}
+use Rattle.fdt_nodes.specs.Nodes.{advance, pairBytes}
 use Rattle.fdt_nodes.specs.Scan.{judged, hit}
 use Rattle.fdt_nodes.specs.declared.Verdict.the-variants.{Invalid}
 use Rattle.fdt_nodes.proofs.Laws.{whole}
-use Rattle.fdt.specs.Passes.{lexAt, folded, cellsAt, pairOf, pairAt, pairsAt, regPairs, pairsMet, pairsFrom, leftIn, handed}
+use Rattle.fdt.specs.Passes.{lexAt, folded, pairOf, pairsAt, regPairs, pairsMet, pairsFrom, leftIn, handed}
 use Rattle.fdt.specs.Blob.{zeroEntry, listEnds, blockOf, stringsOf, insideOf, pairsLeft}
 use Rattle.fdt_nodes.specs.declared.Nodes.{Nodes}
 use Rattle.fdt_nodes.specs.declared.Scan.{Scan}

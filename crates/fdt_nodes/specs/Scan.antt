@@ -1,7 +1,5 @@
 -- The structure block up to a place, as the reader keeps it, and what it comes to. Assumes nothing.
-use Prim.Native.Nat.{ℕ}
 use mathlib.Core.Bool.{Bool, true, false, cond}
-use mathlib.Core.List.{List}
 use lib.Dec.{eqb, ltb}
 use Rattle.fdt_tokens.specs.Devicetree.{oneOrTwo}
 use Rattle.fdt_tokens.specs.Lex.{isDone}

@@ -1,16 +1,15 @@
 -- A structure block that is the tokens of a tree is answered with what the tree says. Assumes nothing.
-use Prim.Native.Nat.{ℕ, zero, suc, _+_, _-_, _*_, _/_, _≤_, _<_, _%_, _^_}
+use Prim.Native.Nat.{ℕ, _+_, _-_, _*_, _≤_, _<_, _%_, _^_}
 use mathlib.Core.Path.{_≡_, refl, sym, _∙_, ap, subst}
 use mathlib.Core.Bool.{Bool, true, false, not, cond, _&&_}
 use mathlib.Core.List.{List, [], _∷_, _++_, map, append-nil}
 use native.Mathlib.Omega.{arith}
 use lib.Dec.{eqb}
-use lib.ListN.{length, drop, length-append}
-use borrow.Author.Tests.{eq-eqb, ne-eqb, eqb-true, eqb-false}
+use lib.ListN.{length, length-append}
+use borrow.Author.Tests.{eq-eqb, ne-eqb, eqb-true}
 use Rattle.fdt_tokens.specs.Devicetree as dt
-use Rattle.fdt_tokens.specs.Devicetree.{Property, Forest, Tree, Pair, Tokens, tokensOf, valueOf, numberFrom, oneOrTwo, allPairs, regsOf, ragged, Answer, answerBy, says, padded}
-use Rattle.fdt_tokens.specs.Lex.{Placed, isDone, read}
-use Rattle.fdt_tokens.specs.declared.Event.the-variants.{End}
+use Rattle.fdt_tokens.specs.Devicetree.{Forest, Tree, Pair, Tokens, tokensOf, valueOf, numberFrom, oneOrTwo, allPairs, regsOf, ragged, Answer, answerBy, says, padded}
+use Rattle.fdt_tokens.specs.Lex.{Placed, isDone}
 use Rattle.fdt_tokens.specs.declared.Lexer.the-variants.{Token, Done}
 use Rattle.fdt_tokens.proofs.Lexing.{events, read-whole}
 use Rattle.fdt_nodes.specs.Nodes.{advance, placed, pairBytes, raggedReg, beginNode, endNode, childEnd, ended}
@@ -19,7 +18,7 @@ use Rattle.fdt.specs.Passes.{folded, judgedBlock, pairsMet, pairsFrom}
 use Rattle.fdt_nodes.specs.declared.Verdict.{Verdict}
 use Rattle.fdt_nodes.specs.declared.Verdict.the-variants.{Accepted, Invalid, UnsupportedCellCounts}
 use Rattle.fdt_nodes.specs.declared.Nodes.{Nodes}
-use Rattle.fdt_tree.proofs.Steps.{Meets, Steps, Reaches, to, andThen, begin-step, end-step, found, events-meet}
+use Rattle.fdt_tree.proofs.Steps.{Meets, Steps, to, begin-step, end-step, found, events-meet}
 use Rattle.fdt_tree.proofs.Deep.{nodes}
 use Rattle.fdt_tree.proofs.Firsts.{Cell, cellOf, cellsOf}
 use Rattle.fdt_tree.proofs.Children.{RootHas, root-props}

@@ -1,8 +1,7 @@
 -- A worked value: tests/devicetree/board.dtb, which dtc made (two cells each, reg before device_type, a deeper memory node, a reservation).
 -- Assumes nothing.
 use Prim.Native.Nat.{ℕ}
-use mathlib.Core.Path.{_≡_, refl, sym, _∙_, ap}
-use native.Mathlib.Omega.{arith}
+use mathlib.Core.Path.{_≡_, refl, sym, ap}
 use mathlib.Core.List.{List, [], _∷_}
 use mathlib.Core.Bool.{true≢false}
 use Rattle.fdt_tokens.specs.Devicetree as dt

@@ -1,25 +1,25 @@
 -- The children of the root: the pairs of those that are memory, and whether a reg is no whole number of pairs. Assumes nothing.
-use Prim.Native.Nat.{ℕ, zero, suc, _+_, _-_, _*_, _/_, _≤_, _<_, _%_, _^_}
+use Prim.Native.Nat.{ℕ, suc, _+_, _-_, _*_, _/_, _≤_, _<_, _^_}
 use mathlib.Core.Path.{_≡_, refl, sym, _∙_, ap, subst}
 use mathlib.Core.Bool.{Bool, true, false, cond}
 use mathlib.Core.List.{List, [], _∷_, _++_, map}
 use native.Mathlib.Omega.{arith}
-use lib.Dec.{eqb, ltb}
-use lib.ListN.{length, drop, length-append, length-drop}
+use lib.Dec.{ltb}
+use lib.ListN.{length, length-append, length-drop}
 use borrow.Author.Tests.{eq-eqb, ne-eqb, ltb-true, ltb-false}
 use Rattle.fdt_tokens.specs.Devicetree as dt
 use Rattle.fdt_tokens.specs.Devicetree.{Property, Forest, Pair, tokensOf, same, valueOf, memoryType, pairsOf, allPairs, regsOf}
 use Rattle.fdt_tokens.specs.Lex.{Placed}
-use Rattle.fdt_nodes.specs.Nodes.{absent, placed, withChild, badNodes, isMemory, width, pairBytes, raggedReg, beginNode, endNode, childEnd}
+use Rattle.fdt_nodes.specs.Nodes.{absent, placed, withChild, badNodes, isMemory, pairBytes, raggedReg, beginNode, endNode, childEnd}
 use Rattle.fdt_nodes.specs.Scan.{hasPair}
 use Rattle.fdt_nodes.proofs.Laws.{whole}
 use Rattle.fdt.specs.Passes.{regPairs, pairsAt}
 use Rattle.fdt_nodes.specs.declared.First.{First}
 use Rattle.fdt_nodes.specs.declared.Nodes.{Nodes}
-use Rattle.fdt_tree.proofs.Steps.{Meets, Steps, Reaches, stay, to, andThen, begin-step, end-step, found}
+use Rattle.fdt_tree.proofs.Steps.{Meets, Reaches, stay, to, andThen, begin-step, end-step, found}
 use Rattle.fdt_tree.proofs.Deep.{nodes, node-tokens, deep-forest}
 use Rattle.fdt_tree.proofs.Firsts.{Kind, Reg, cellsOf, width-is, pair-bytes, pairs-are}
-use Rattle.fdt_tree.proofs.Children.{ChildHas, child-props, weaken}
+use Rattle.fdt_tree.proofs.Children.{ChildHas, child-props}
 
 -- some reg is no whole number of pairs, where both counts are 1 or 2
 abbrev pub raggedRegs : ℕ → ℕ → List (List ℕ) → Bool

@@ -8,7 +8,7 @@ use lib.Dec.{eqb}
 use lib.ListN.{length, drop, length-append}
 use borrow.Author.Tests.{eqb-true, eqb-false, eq-eqb, ne-eqb}
 use Rattle.fdt_tokens.specs.Devicetree as dt
-use Rattle.fdt_tokens.specs.Devicetree.{Tree, Tokens, padded, tokensOf, joined, hasZero, oneOrTwo}
+use Rattle.fdt_tokens.specs.Devicetree.{Tree, Tokens, padded, tokensOf, joined, hasZero}
 use Rattle.fdt_tokens.specs.Lex.{Placed, isDone, read}
 use Rattle.fdt_tokens.specs.declared.Event.{Event}
 use Rattle.fdt_tokens.specs.declared.Event.the-variants.{Nothing, Begin, EndNode, Prop, End}
@@ -16,8 +16,8 @@ use Rattle.fdt_tokens.specs.declared.Lexer.{Lexer}
 use Rattle.fdt_tokens.specs.declared.Lexer.the-variants.{Token, Name, Length, Offset, Value, Done, Broken}
 use Rattle.fdt_tokens.proofs.Laws.{impossible}
 use Rattle.fdt_tokens.proofs.Lexing.{events, read-whole}
-use Rattle.fdt_tokens.proofs.Sound.{AtToken, Closes, Closed, sound}
-use Rattle.fdt_tokens.proofs.Grammar.{fits, whole, OneRoot, accepted-whole}
+use Rattle.fdt_tokens.proofs.Sound.{Closes, Closed, sound}
+use Rattle.fdt_tokens.proofs.Grammar.{fits, whole, accepted-whole}
 use Rattle.fdt_nodes.specs.Nodes.{absent, placed, withChild, badNodes, isMemory, raggedReg, beginNode, childEnd, endNode, rootProperty, childProperty, property, ended, advance}
 use Rattle.fdt_nodes.specs.Scan.{started, judged}
 use Rattle.fdt.specs.Passes.{folded, judgedBlock}

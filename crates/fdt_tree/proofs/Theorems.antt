@@ -1,15 +1,15 @@
 -- The reader and the definition. Assumes nothing.
-use Prim.Native.Nat.{ℕ, zero, suc, _+_, _-_, _/_, _%_, _≤_, _<_}
+use Prim.Native.Nat.{ℕ, _+_, _-_, _/_, _%_, _≤_}
 use mathlib.Core.Path.{_≡_, refl, sym, _∙_, ap, subst}
 use mathlib.Core.Bool.{Bool, true, false, cond, true≢false}
-use mathlib.Core.List.{List, [], _∷_, _++_}
+use mathlib.Core.List.{List, _++_}
 use native.Mathlib.Omega.{arith}
 use lib.Dec.{eqb, ltb}
-use lib.ListN.{length, take, drop, length-append, length-take, length-drop, take-append-drop}
+use lib.ListN.{length, take, drop, length-append, length-take, take-append-drop}
 use lib.Seq.{length-take-le, take-append-seam}
-use borrow.Author.Tests.{eq-eqb, ne-eqb, eqb-true, eqb-false, lt-ltb, le-ltb, ltb-true, ltb-false}
+use borrow.Author.Tests.{eq-eqb, eqb-true, le-ltb, ltb-false}
 use Rattle.fdt_tokens.specs.Devicetree as dt
-use Rattle.fdt_tokens.specs.Devicetree.{Tree, Tokens, tokensOf, field, span, ListEnds, BlobOf, says}
+use Rattle.fdt_tokens.specs.Devicetree.{Tree, Tokens, tokensOf, field, span, BlobOf, says}
 use Rattle.fdt_tokens.specs.Bytes.{wordAt}
 use Rattle.fdt_tokens.proofs.Laws.{impossible}
 use Rattle.fdt_nodes.specs.Scan.{started}

@@ -1,13 +1,13 @@
 -- The pairs of a blob of bytes fit 64 bits. Assumes nothing.
 use Prim.Native.Nat.{ℕ, zero, suc, _+_, _-_, _*_, _/_, _%_, _^_, _<_}
-use mathlib.Core.Bool.{Bool, true, false, cond}
+use mathlib.Core.Bool.{cond}
 use mathlib.Core.List.{List, [], _∷_, _++_}
 use native.Mathlib.Omega.{arith}
 use lib.Dec.{eqb, leb}
 use lib.ListN.{length, take, drop, getD}
 use Rattle.lists.proofs.Laws.{cond-all}
 use Rattle.lists.proofs.Every.{Every, every-append}
-use Rattle.fdt_tokens.specs.Devicetree.{Pair, Answer, joined}
+use Rattle.fdt_tokens.specs.Devicetree.{Pair, joined}
 use Rattle.fdt_tokens.specs.Bytes.{wordAt}
 use Rattle.fdt_tokens.specs.Lex.{Placed, read}
 use Rattle.fdt_nodes.specs.Nodes.{width, pairBytes, advance}

@@ -22,7 +22,7 @@ use Rattle.stage2.specs.declared.Built.{Built}
 use Rattle.stage2.specs.Policy.{builtBy, allowRange}
 use Rattle.stage2.specs.Builds.{BuilderCall, buildAll}
 use Rattle.memory_import.specs.Import.{allowCalls, pairsIn, reading, importCalls, answerOfAll, importAnswer, importMemory}
-use Rattle.memory_import.proofs.Laws.{allOrNone, import-invalid, import-unsupported, import-pairs}
+use Rattle.memory_import.proofs.Laws.{import-invalid, import-unsupported, import-pairs}
 use Rattle.lent_words.specs.Words.{FitsWord, Bytes, Lent, Left, unlessRefused}
 use Rattle.lent_words.proofs.Words.{length-each}
 use Rattle.lent_words.proofs.Left.{when-accepted, when-refused}

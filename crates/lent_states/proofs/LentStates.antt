@@ -4,16 +4,14 @@ use mathlib.Core.Path.{_≡_, refl, sym, ap, _∙_}
 use mathlib.Core.List.{List, [], _∷_, map}
 use native.Mathlib.Omega.{arith}
 use borrow.Author.Tests.{le-ltb}
-use lib.Dec.{eqb}
 use lib.ListN.{getD, replicate, length-replicate}
-use Rattle.lists.proofs.Laws.{cond-all}
 use Rattle.lent_words.specs.Words.{wordAt, wordsAt, bytesOf, FitsWord, Bytes, Lent}
 use Rattle.lent_words.proofs.Words.{length-each}
 use Rattle.lent_words.proofs.RoundTrip.{Every, word-fits}
 use Rattle.lent_words.proofs.Every.{every-each}
 use Rattle.stage2_range.specs.Ranges.{resultNumber}
 use Rattle.stage2.specs.declared.Policy.{Policy}
-use Rattle.stage2.specs.Policy.{allowRange, handleRange}
+use Rattle.stage2.specs.Policy.{handleRange}
 use Rattle.exceptions.specs.declared.Core.{Core}
 use Rattle.exceptions.specs.Registers.{writeGpr, writeNumber, coreOf}
 use Rattle.data_abort.specs.declared.TrapRegisters.{TrapRegisters}
@@ -24,14 +22,14 @@ use Rattle.hypervisor.specs.Cores.{freshCores, saveCore, saveOn, replyOn, trapO
 use Rattle.hypervisor.proofs.Steps.{trap-policy}
 use Rattle.simple_map.specs.declared.SimpleMap.{SimpleMap}
 use Rattle.simple_map.specs.Map.{insertItem, insertNumber, removeItem}
-use Rattle.lent_policy.specs.Layout.{policyAt, withAllowed, withRegions, policySize}
-use Rattle.lent_policy.proofs.States.{fresh-policy, allowed-lent, regions-lent}
+use Rattle.lent_policy.specs.Layout.{policyAt, withRegions, policySize}
+use Rattle.lent_policy.proofs.States.{fresh-policy, regions-lent}
 use Rattle.lent_cores.specs.Layout.{coresAt, counterAt, withCore, withCounter, counterWord, coresSize, elrWord, spsrWord}
 use Rattle.lent_cores.proofs.Records.{core-lent, counter-lent}
 use Rattle.lent_cores.proofs.States.{fresh-cores, fresh-counter}
 use Rattle.lent_map.specs.Layout.{mapAt, withPlaces, mapSize}
 use Rattle.lent_map.proofs.States.{fresh-map, places-lent}
-use Rattle.ritm.specs.Interface.{unlessRefused, allowCall, handleCall, importCall, saveCall, trapCall, replyCall, writeCall, insertCall, getCall, removeCall}
+use Rattle.ritm.specs.Interface.{allowCall, handleCall, importCall, saveCall, trapCall, replyCall, writeCall, insertCall, getCall, removeCall}
 use Rattle.order_independence.specs.Calls.{State, freshState, answerNumber, answerValues, call, callAll}
 use Rattle.order_independence.proofs.Calls.{refusal-keeps}
 use Rattle.lent_states.specs.LentStates.{Buffers, stateIn, Entry, ritm-allow-range, ritm-handle-range, ritm-import-memory, ritm-save, ritm-trap, ritm-reply, ritm-write-gpr, ritm-insert, ritm-get, ritm-remove, left, withPolicyBytes, withCoreBytes, withMapBytes, afterCall, afterAll, hostCall, Typed, AllTyped, Sized}

@@ -1,8 +1,8 @@
 -- Laws on imports: what the reader's answer makes of one, and its calls one by one. Assumes nothing.
 use Prim.Native.Nat.{ℕ}
-use mathlib.Core.Path.{_≡_, refl, sym, _∙_, ap}
+use mathlib.Core.Path.{_≡_, sym, ap}
 use mathlib.Core.Bool.{Bool, true, false, cond}
-use mathlib.Core.List.{List, [], _∷_, map}
+use mathlib.Core.List.{List, [], _∷_}
 use Rattle.fdt_tokens.specs.Devicetree.{Pair}
 use Rattle.fdt.specs.declared.Cursor.{Cursor}
 use Rattle.fdt.specs.declared.Memory.{Memory}
@@ -11,13 +11,12 @@ use Rattle.fdt.specs.declared.Memory.the-variants as memory
 use Rattle.fdt.specs.Blob.{memoryOf, pairsLeft, answerIn, answerOf}
 use Rattle.stage2_range.specs.declared.Stage2ConfigError.{Stage2ConfigError}
 use Rattle.stage2_range.specs.declared.Stage2ConfigError.the-variants.{InvalidDevicetree, UnsupportedCellCounts}
-use Rattle.stage2_range.specs.declared.Stage2Result.{Stage2Result}
 use Rattle.stage2_range.specs.declared.Stage2Result.the-variants.{Accepted, Refused}
 use Rattle.stage2_range.specs.Ranges.{after}
 use Rattle.stage2.specs.declared.Policy.{Policy}
 use Rattle.stage2.specs.declared.Built.{Built}
 use Rattle.stage2.specs.Policy.{builtBy, allowRange}
-use Rattle.stage2.specs.Builds.{BuilderCall, allow, build, buildAll}
+use Rattle.stage2.specs.Builds.{BuilderCall, buildAll}
 use Rattle.memory_import.specs.Import.{allowCalls, readingOf, pairsIn, reading, importCalls, answerOfAll, importAnswer, importMemory}
 
 -- a refusal leaves the policy as it was

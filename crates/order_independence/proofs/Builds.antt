@@ -26,7 +26,7 @@ use Rattle.stage2.specs.Builds.{BuilderCall, allow, handle, build, buildAll, Ap
 use Rattle.memory_import.specs.Changes.{PolicyCall, change, changeAll, takenApart, allApart}
 use Rattle.memory_import.proofs.Changes.{change-refused, change-keeps, AllBuilt, all-parts, accepted-apart, apart-accepted, build-append}
 use Rattle.order_independence.specs.Builds.{accepts, accepted, AllAccepted, SamePolicy}
-use Rattle.stage2.proofs.Laws.{build-refused, allow-accepted, can-allow, handle-accepted, can-handle}
+use Rattle.stage2.proofs.Laws.{allow-accepted, can-allow, handle-accepted, can-handle}
 use Rattle.stage2.proofs.WellFormed.{build-keeps}
 use Rattle.stage2.proofs.Held.{allowed-length, regions-length, allow-holds, handle-holds}
 

@@ -1,5 +1,3 @@
-use borrow.Author.Tests.{not-true, not-false, lt-ltb, le-ltb, le-leb, lt-leb, eq-eqb, ne-eqb}
-use native.Mathlib.Omega.{arith}
 use Rattle.fdt.specs.Passes.{handed}
 use borrow.Author.Needs.{needs}
 use Rattle.fdt.proofs.hand_out.Statement.{statement}

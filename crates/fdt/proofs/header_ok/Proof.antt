@@ -1,5 +1,5 @@
 use Rattle.fdt.specs.Blob.{headerOk}
-use borrow.Author.Tests.{lt-ltb, le-ltb, le-leb, lt-leb, eq-eqb, ne-eqb}
+use borrow.Author.Tests.{lt-ltb, le-ltb, eq-eqb, ne-eqb}
 use borrow.Author.Needs.{needs}
 use Rattle.fdt.proofs.header_ok.Statement.{statement}
 use Rattle.fdt.proofs.header_ok.Tie as tie

@@ -1,6 +1,5 @@
-use borrow.Author.Tests.{not-true, not-false, lt-ltb, le-ltb, le-leb, lt-leb, eq-eqb, ne-eqb}
+use borrow.Author.Tests.{lt-ltb, le-ltb}
 use Rattle.fdt.specs.Blob.{insideOf}
-use borrow.Author.Needs.{needs}
 use Rattle.fdt.proofs.inside.Statement.{statement}
 use Rattle.fdt.proofs.inside.Tie as tie
 

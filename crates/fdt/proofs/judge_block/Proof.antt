@@ -1,7 +1,7 @@
 use native.Mathlib.Omega.{arith}
 use lib.ListN.{length}
 use Prim.Native.Nat.{_-_}
-use mathlib.Core.Path.{_≡_, refl, _∙_, sym, ap}
+use mathlib.Core.Path.{_∙_, sym}
 use Rattle.fdt_tokens.specs.Lex.{read}
 use Rattle.fdt_tokens.specs.declared.Lexer.the-variants.{Token}
 use Rattle.fdt_nodes.specs.Scan.{started}

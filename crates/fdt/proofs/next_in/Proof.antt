@@ -1,5 +1,4 @@
 use borrow.Author.Tests.{not-true, not-false}
-use mathlib.Core.Path.{_≡_, _∙_, sym}
 use native.Mathlib.Omega.{arith}
 use Rattle.fdt.proofs.Laws.{out-of-reg, out-of-none, out-of-next}
 use borrow.Author.Needs.{needs}

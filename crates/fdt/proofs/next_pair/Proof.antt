@@ -1,5 +1,5 @@
 use borrow.Author.Tests.{not-true, not-false}
-use mathlib.Core.Path.{_≡_, sym, _∙_}
+use mathlib.Core.Path.{sym, _∙_}
 use Rattle.fdt.proofs.Laws.{inside-is, left-outside, left-outside-strings, left-inside}
 use borrow.Author.Needs.{needs}
 use Rattle.fdt.proofs.next_pair.Statement.{statement}

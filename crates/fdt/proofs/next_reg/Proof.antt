@@ -1,7 +1,7 @@
 use native.Mathlib.Omega.{arith}
 use lib.ListN.{length, drop}
 use Prim.Native.Nat.{_-_}
-use mathlib.Core.Path.{_≡_, refl, _∙_, sym, ap}
+use mathlib.Core.Path.{refl, _∙_, sym}
 use Rattle.fdt.specs.Passes.{pairsFrom}
 use Rattle.fdt.proofs.Laws.{PairsLeft, pairs-none, pairs-hit, pairs-miss, pairs-skip}
 use borrow.Author.Needs.{needs}

@@ -1,10 +1,8 @@
 use Rattle.fdt.proofs.Laws.{EntriesLeft, entry-here, entry-later, entry-done}
-use lib.ListN.{length}
 use Prim.Native.Nat.{_-_, _/_}
 use Rattle.fdt.specs.Blob.{listEnds}
-use mathlib.Core.Path.{_≡_, refl, _∙_, sym, ap}
+use mathlib.Core.Path.{_≡_, refl, _∙_, sym}
 use native.Mathlib.Omega.{arith}
-use borrow.Author.Needs.{needs}
 use Rattle.fdt.proofs.reservations_end.Statement.{statement}
 use Rattle.fdt.proofs.reservations_end.Tie as tie
 

@@ -1,5 +1,5 @@
 use Rattle.fdt.specs.Blob.{zeroEntry}
-use borrow.Author.Tests.{lt-ltb, le-ltb, le-leb, lt-leb, eq-eqb, ne-eqb}
+use borrow.Author.Tests.{eq-eqb, ne-eqb}
 use borrow.Author.Needs.{needs}
 use Rattle.fdt.proofs.zero_entry.Statement.{statement}
 use Rattle.fdt.proofs.zero_entry.Tie as tie

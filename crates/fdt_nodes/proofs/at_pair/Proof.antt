@@ -1,4 +1,3 @@
-use borrow.Author.Tests.{not-true, not-false, lt-ltb, le-ltb, le-leb, lt-leb, eq-eqb, ne-eqb}
 use Rattle.fdt_nodes.specs.Scan.{hit}
 use borrow.Author.Needs.{needs}
 use Rattle.fdt_nodes.proofs.at_pair.Statement.{statement}

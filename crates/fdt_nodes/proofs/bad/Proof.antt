@@ -1,5 +1,5 @@
 use Rattle.fdt_nodes.specs.Nodes.{badNodes}
-use mathlib.Core.Path.{_≡_, refl, _∙_, sym}
+use mathlib.Core.Path.{refl}
 use Rattle.fdt_nodes.proofs.bad.Statement.{statement}
 use Rattle.fdt_nodes.proofs.bad.Tie as tie
 

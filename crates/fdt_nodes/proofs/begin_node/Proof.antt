@@ -1,5 +1,5 @@
 use Rattle.fdt_nodes.specs.Nodes.{beginNode}
-use borrow.Author.Tests.{lt-ltb, le-ltb, le-leb, lt-leb, eq-eqb, ne-eqb}
+use borrow.Author.Tests.{eq-eqb, ne-eqb}
 use borrow.Author.Needs.{needs}
 use Rattle.fdt_nodes.proofs.begin_node.Statement.{statement}
 use Rattle.fdt_nodes.proofs.begin_node.Tie as tie

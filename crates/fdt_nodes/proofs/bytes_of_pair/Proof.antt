@@ -1,4 +1,3 @@
-use borrow.Author.Tests.{not-true, not-false, lt-ltb, le-ltb, le-leb, lt-leb, eq-eqb, ne-eqb}
 use native.Mathlib.Omega.{arith}
 use Rattle.fdt_nodes.specs.Nodes.{pairBytes}
 use borrow.Author.Needs.{needs}

@@ -1,7 +1,6 @@
-use borrow.Author.Tests.{not-true, not-false, lt-ltb, le-ltb, le-leb, lt-leb, eq-eqb, ne-eqb}
+use borrow.Author.Tests.{eq-eqb, ne-eqb}
 use native.Mathlib.Omega.{arith}
 use Rattle.fdt_nodes.specs.Nodes.{width}
-use borrow.Author.Needs.{needs}
 use Rattle.fdt_nodes.proofs.cells_width.Statement.{statement}
 use Rattle.fdt_nodes.proofs.cells_width.Tie as tie
 

@@ -1,5 +1,5 @@
 use Rattle.fdt_tokens.specs.Devicetree.{oneOrTwo}
-use borrow.Author.Tests.{lt-ltb, le-ltb, le-leb, lt-leb, eq-eqb, ne-eqb}
+use borrow.Author.Tests.{eq-eqb, ne-eqb}
 use Rattle.fdt_nodes.proofs.is_count.Statement.{statement}
 use Rattle.fdt_nodes.proofs.is_count.Tie as tie
 

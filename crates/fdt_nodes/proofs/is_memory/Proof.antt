@@ -1,6 +1,5 @@
-use borrow.Author.Tests.{not-true, not-false, lt-ltb, le-ltb, le-leb, lt-leb, eq-eqb, ne-eqb}
+use borrow.Author.Tests.{eq-eqb, ne-eqb}
 use Rattle.fdt_nodes.specs.Nodes.{isMemory}
-use borrow.Author.Needs.{needs}
 use Rattle.fdt_nodes.proofs.is_memory.Statement.{statement}
 use Rattle.fdt_nodes.proofs.is_memory.Tie as tie
 

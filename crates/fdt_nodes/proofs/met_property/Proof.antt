@@ -1,6 +1,6 @@
 use borrow.Author.Tests.{not-true, not-false}
 use Rattle.fdt_nodes.specs.Nodes.{property}
-use borrow.Author.Tests.{lt-ltb, le-ltb, le-leb, lt-leb, eq-eqb, ne-eqb}
+use borrow.Author.Tests.{eq-eqb, ne-eqb}
 use borrow.Author.Needs.{needs}
 use Rattle.fdt_nodes.proofs.met_property.Statement.{statement}
 use Rattle.fdt_nodes.proofs.met_property.Tie as tie

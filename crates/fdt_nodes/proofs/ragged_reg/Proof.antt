@@ -1,5 +1,5 @@
 use borrow.Author.Tests.{not-true, not-false}
-use mathlib.Core.Path.{_≡_, sym, _∙_}
+use mathlib.Core.Path.{sym, _∙_}
 use Rattle.fdt_nodes.specs.Nodes.{raggedReg}
 use Rattle.fdt_nodes.proofs.Laws.{ragged-by, sixteen-left}
 use borrow.Author.Needs.{needs}

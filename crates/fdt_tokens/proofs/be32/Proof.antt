@@ -1,9 +1,8 @@
-use mathlib.Core.Path.{_∙_, sym}
 use Rattle.fdt_tokens.specs.Bytes.{wordAt}
 use lib.ListN.{length}
 use Prim.Native.Nat.{_+_}
 use native.Mathlib.Omega.{arith}
-use borrow.Author.Tests.{lt-ltb, le-ltb, le-leb, lt-leb, eq-eqb, ne-eqb}
+use borrow.Author.Tests.{le-leb, lt-leb}
 use borrow.Author.Needs.{needs}
 use Rattle.fdt_tokens.proofs.be32.Statement.{statement}
 use Rattle.fdt_tokens.proofs.be32.Tie as tie

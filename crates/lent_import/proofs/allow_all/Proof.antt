@@ -1,4 +1,4 @@
-use mathlib.Core.Path.{_≡_, refl}
+use mathlib.Core.Path.{refl}
 use Rattle.fdt.specs.Blob.{pairsLeft}
 use Rattle.memory_import.specs.Import.{allowCalls}
 use Rattle.lent_import.proofs.Laws.{all-refused, all-allowed}

@@ -1,4 +1,4 @@
-use mathlib.Core.Path.{_≡_, refl, sym, _∙_, ap}
+use mathlib.Core.Path.{refl}
 use Rattle.lent_import.proofs.Laws.{invalid-leaves, unsupported-leaves, pairs-leave}
 use borrow.Author.Needs.{needs}
 use Rattle.lent_import.proofs.import_memory.Statement.{statement}
