@@ -4,8 +4,8 @@ use mathlib.Core.Bool.{Bool, true, false, cond}
 use mathlib.Core.List.{List, []}
 use lib.Dec.{ltb, eqb}
 use lib.ListN.{length, take, drop}
-use Rattle.fdt_tokens.specs.Devicetree.{Pair, Answer, invalid, unsupported, pairs}
-use Rattle.fdt_tokens.specs.Bytes.{wordAt}
+use Rattle.fdt_tokens.specs.Devicetree.{Pair, Said, invalid, unsupported, pairs}
+use Rattle.fdt_tokens.specs.Bytes.{be32At}
 use Rattle.fdt_nodes.specs.declared.Verdict.{Verdict}
 use Rattle.fdt_nodes.specs.declared.Verdict.the-variants as verdict
 use Rattle.fdt_nodes.specs.Scan.{started}
@@ -28,9 +28,9 @@ cursorAt b = record { blocks = b; walk = firstWalk }
 
 unfoldable pub zeroEntry : List ℕ → ℕ → Bool
 zeroEntry s at =
-    cond (eqb (wordAt s at) 0)
-    (cond (eqb (wordAt s (at + 4)) 0)
-    (cond (eqb (wordAt s (at + 8)) 0) (eqb (wordAt s (at + 12)) 0) false) false) false
+    cond (eqb (be32At s at) 0)
+    (cond (eqb (be32At s (at + 4)) 0)
+    (cond (eqb (be32At s (at + 8)) 0) (eqb (be32At s (at + 12)) 0) false) false) false
 
 -- among the `n` entries from `at` on is one of zero bytes
 unfoldable pub listEnds : List ℕ → ℕ → ℕ → Bool
@@ -39,11 +39,11 @@ listEnds s at (suc n) = cond (zeroEntry s at) true (listEnds s (at + 16) n)
 
 unfoldable pub headerOk : List ℕ → ℕ → Bool
 headerOk s total =
-    cond (eqb (wordAt s 0) 0xD00DFEED)
-    (cond (ltb (wordAt s 20) 17) false
-    (cond (ltb 17 (wordAt s 24)) false
-    (cond (eqb (wordAt s 16 % 8) 0)
-    (cond (eqb (wordAt s 8 % 4) 0) (listEnds s (wordAt s 16) ((total - wordAt s 16) / 16)) false) false))) false
+    cond (eqb (be32At s 0) 0xD00DFEED)
+    (cond (ltb (be32At s 20) 17) false
+    (cond (ltb 17 (be32At s 24)) false
+    (cond (eqb (be32At s 16 % 8) 0)
+    (cond (eqb (be32At s 8 % 4) 0) (listEnds s (be32At s 16) ((total - be32At s 16) / 16)) false) false))) false
 
 -- the bytes from a place to another
 abbrev pub part : List ℕ → ℕ → ℕ → List ℕ
@@ -69,18 +69,18 @@ blocksMemory s b = memoryBy (judgedBlock (blockOf s b) (stringsOf s b)) b
 unfoldable pub blobMemory : List ℕ → ℕ → Memory
 blobMemory s total =
     cond (headerOk s total)
-    (cond (ltb total (wordAt s 8 + wordAt s 36)) Invalid
-    (cond (ltb total (wordAt s 12 + wordAt s 32)) Invalid
-    (blocksMemory s (blocksAt (wordAt s 8) (wordAt s 8 + wordAt s 36) (wordAt s 12) (wordAt s 12 + wordAt s 32)))))
+    (cond (ltb total (be32At s 8 + be32At s 36)) Invalid
+    (cond (ltb total (be32At s 12 + be32At s 32)) Invalid
+    (blocksMemory s (blocksAt (be32At s 8) (be32At s 8 + be32At s 36) (be32At s 12) (be32At s 12 + be32At s 32)))))
     Invalid
 
 unfoldable pub memoryOf : List ℕ → Memory
 memoryOf s =
     cond (ltb (length s) 40) Invalid
-    (cond (ltb (wordAt s 4) 40) Invalid
-    (cond (ltb 65536 (wordAt s 4)) Invalid
-    (cond (ltb (length s) (wordAt s 4)) Invalid
-    (blobMemory s (wordAt s 4)))))
+    (cond (ltb (be32At s 4) 40) Invalid
+    (cond (ltb 65536 (be32At s 4)) Invalid
+    (cond (ltb (length s) (be32At s 4)) Invalid
+    (blobMemory s (be32At s 4)))))
 
 -- a part that lies in `n` bytes, and ends at 64 KiB at most
 unfoldable pub insideOf : ℕ → ℕ → ℕ → Bool
@@ -99,11 +99,11 @@ pairsLeft s c =
     []) []
 
 -- a slice's memory as an answer, with all the pairs that are left at its cursor
-unfoldable pub answerIn : List ℕ → Memory → Answer
-answerIn s Invalid = invalid
-answerIn s UnsupportedCellCounts = unsupported
-answerIn s (Pairs cursor) = pairs (pairsLeft s cursor)
+unfoldable pub memoryAnswer : List ℕ → Memory → Said
+memoryAnswer s Invalid = invalid
+memoryAnswer s UnsupportedCellCounts = unsupported
+memoryAnswer s (Pairs cursor) = pairs (pairsLeft s cursor)
 
 -- what the reader answers
-unfoldable pub answerOf : List ℕ → Answer
-answerOf s = answerIn s (memoryOf s)
+unfoldable pub blobAnswer : List ℕ → Said
+blobAnswer s = memoryAnswer s (memoryOf s)

@@ -5,7 +5,7 @@ use mathlib.Core.List.{List, [], _∷_, _++_}
 use lib.Dec.{eqb}
 use lib.ListN.{drop, getD}
 use Rattle.fdt_tokens.specs.Devicetree.{Pair}
-use Rattle.fdt_tokens.specs.Bytes.{wordAt}
+use Rattle.fdt_tokens.specs.Bytes.{be32At}
 use Rattle.fdt_tokens.specs.Lex.{lexWord, Placed, read}
 use Rattle.fdt_tokens.specs.declared.Lexed.{Lexed}
 use Rattle.fdt_tokens.specs.declared.Lexer.{Lexer}
@@ -33,7 +33,7 @@ judgedBlock block strings =
 
 -- one cell, or two
 unfoldable pub cellsAt : List ℕ → ℕ → ℕ → ℕ
-cellsAt s at n = cond (eqb n 1) (wordAt s at) (wordAt s at * 4294967296 + wordAt s (at + 4))
+cellsAt s at n = cond (eqb n 1) (be32At s at) (be32At s at * 4294967296 + be32At s (at + 4))
 
 abbrev pub pairOf : ℕ → ℕ → Pair
 pairOf b z = record { base = b; size = z }

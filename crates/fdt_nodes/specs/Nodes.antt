@@ -6,7 +6,7 @@ use lib.Dec.{eqb}
 use lib.ListN.{drop}
 use Rattle.fdt_tokens.specs.Devicetree as dt
 use Rattle.fdt_tokens.specs.Devicetree.{hasZero, oneOrTwo, memoryType}
-use Rattle.fdt_tokens.specs.Bytes.{wordAt, begins}
+use Rattle.fdt_tokens.specs.Bytes.{be32At, startsWith}
 use Rattle.fdt_tokens.specs.declared.Event.{Event}
 use Rattle.fdt_tokens.specs.declared.Event.the-variants.{Nothing, Begin, EndNode, Prop, End}
 use Rattle.fdt_nodes.specs.declared.First.{First}
@@ -16,35 +16,35 @@ use Rattle.fdt_nodes.specs.declared.Nodes.{Nodes}
 abbrev terminated : List ℕ → List ℕ
 terminated name = name ++ (0 ∷ [])
 
-abbrev pub addressCells : List ℕ
-addressCells = terminated dt.addressCells
+abbrev pub addressCellsText : List ℕ
+addressCellsText = terminated dt.addressCells
 
-abbrev pub sizeCells : List ℕ
-sizeCells = terminated dt.sizeCells
+abbrev pub sizeCellsText : List ℕ
+sizeCellsText = terminated dt.sizeCells
 
-abbrev pub deviceType : List ℕ
-deviceType = terminated dt.deviceType
+abbrev pub deviceTypeText : List ℕ
+deviceTypeText = terminated dt.deviceType
 
-abbrev pub regName : List ℕ
-regName = terminated dt.regName
+abbrev pub regText : List ℕ
+regText = terminated dt.regName
 
 abbrev pub absent : First
 absent = record { seen = false; length = 0; value = 0 }
 
 -- in a node the first property of a name counts
-unfoldable pub firstOf : First → ℕ → ℕ → First
-firstOf f n v = cond (f .seen) f (record { seen = true; length = n; value = v })
+unfoldable pub firstKept : First → ℕ → ℕ → First
+firstKept f n v = cond (f .seen) f (record { seen = true; length = n; value = v })
 
 unfoldable pub firstNamed : List ℕ → ℕ → List ℕ → First → ℕ → ℕ → First
-firstNamed strings name text f n v = cond (begins text (drop name strings)) (firstOf f n v) f
+firstNamed strings name text f n v = cond (startsWith text (drop name strings)) (firstKept f n v) f
 
 -- a cell, in a value of four bytes
 unfoldable pub cellAt : List ℕ → ℕ → ℕ → ℕ
-cellAt s at n = cond (eqb n 4) (wordAt s at) 0
+cellAt s at n = cond (eqb n 4) (be32At s at) 0
 
 -- nodes with another place in the tree, other counts, another last child
-abbrev pub placed : Nodes → ℕ → Bool → Bool → Nodes
-placed n d o r =
+abbrev pub atDepth : Nodes → ℕ → Bool → Bool → Nodes
+atDepth n d o r =
     record { ok = n .ok; depth = d; props = o; rooted = r; address = n .address; size = n .size; kind = n .kind; reg = n .reg }
 
 abbrev pub withCounts : Nodes → First → First → Nodes
@@ -79,9 +79,9 @@ raggedReg n a z = cond (oneOrTwo a) (cond (oneOrTwo z) (not (eqb (n % pairBytes 
 unfoldable pub beginNode : Nodes → Nodes
 beginNode n =
     cond (eqb (n .depth) 0)
-    (cond (n .rooted) (badNodes n) (placed n 1 true true))
-    (cond (eqb (n .depth) 1) (withChild (placed n 2 true (n .rooted)) absent absent)
-    (placed n ((n .depth + 1) % 2 ^ 64) true (n .rooted)))
+    (cond (n .rooted) (badNodes n) (atDepth n 1 true true))
+    (cond (eqb (n .depth) 1) (withChild (atDepth n 2 true (n .rooted)) absent absent)
+    (atDepth n ((n .depth + 1) % 2 ^ 64) true (n .rooted)))
 
 -- a memory child's reg is judged at its end
 unfoldable pub childEnd : Nodes → Nodes
@@ -91,15 +91,15 @@ childEnd n =
     n
 
 unfoldable pub endNode : Nodes → Nodes
-endNode n = cond (eqb (n .depth) 0) (badNodes n) (childEnd (placed n (n .depth - 1) false (n .rooted)))
+endNode n = cond (eqb (n .depth) 0) (badNodes n) (childEnd (atDepth n (n .depth - 1) false (n .rooted)))
 
 unfoldable pub rootProperty : List ℕ → List ℕ → ℕ → Nodes → ℕ → ℕ → Nodes
 rootProperty s strings at n w name =
-    withCounts n (firstNamed strings name addressCells (n .address) w (cellAt s at w)) (firstNamed strings name sizeCells (n .size) w (cellAt s at w))
+    withCounts n (firstNamed strings name addressCellsText (n .address) w (cellAt s at w)) (firstNamed strings name sizeCellsText (n .size) w (cellAt s at w))
 
 unfoldable pub childProperty : List ℕ → List ℕ → ℕ → Nodes → ℕ → ℕ → Nodes
 childProperty s strings at n w name =
-    withChild n (firstNamed strings name deviceType (n .kind) w (flag (begins memoryType (drop at s)))) (firstNamed strings name regName (n .reg) w at)
+    withChild n (firstNamed strings name deviceTypeText (n .kind) w (flag (startsWith memoryType (drop at s)))) (firstNamed strings name regText (n .reg) w at)
 
 unfoldable pub property : List ℕ → List ℕ → ℕ → Nodes → ℕ → ℕ → Nodes
 property s strings at n w name =

@@ -2,7 +2,7 @@
 ghost use mathlib.Core.Path.{_≡_};
 ghost use Prim.Native.Nat.{_≤_};
 ghost use Rattle.fdt_tokens.specs.Devicetree.{oneOrTwo};
-ghost use Rattle.fdt_nodes.specs.Nodes.{firstOf, absent, firstNamed, cellAt, badNodes, isMemory, width, pairBytes, raggedReg, beginNode, childEnd, endNode, rootProperty, childProperty, flag, property, ended, advance};
+ghost use Rattle.fdt_nodes.specs.Nodes.{firstKept, absent, firstNamed, cellAt, badNodes, isMemory, width, pairBytes, raggedReg, beginNode, childEnd, endNode, rootProperty, childProperty, flag, property, ended, advance};
 ghost use Rattle.fdt_nodes.specs.Scan.{started, judged, hasPair, hit};
 use fdt_tokens::Event;
 use fdt_tokens::Lexer;
@@ -33,7 +33,7 @@ pub struct Nodes {
 }
 
 fn first_property(found: First, length: u32, value: u32) -> First
-    ensures { λ r. ⌜ r ≡ firstOf found length value ⌝ }
+    ensures { λ r. ⌜ r ≡ firstKept found length value ⌝ }
 {
     if found.seen {
         return found;

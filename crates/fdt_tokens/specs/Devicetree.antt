@@ -30,7 +30,7 @@ padded (a ∷ b ∷ c ∷ []) = a ∷ b ∷ c ∷ 0 ∷ []
 padded (a ∷ b ∷ c ∷ d ∷ l) = a ∷ b ∷ c ∷ d ∷ padded l
 
 -- the name at an offset of the strings block ends with the first zero byte from there on, which lies inside the block
-pub record Named (strings : List ℕ) (off : ℕ) (name : List ℕ) : Type 0 where
+pub record NameAt (strings : List ℕ) (off : ℕ) (name : List ℕ) : Type 0 where
   pub rest : List ℕ
   pub stands : drop off strings ≡ name ++ (0 ∷ rest)
   pub free : hasZero name ≡ false
@@ -56,7 +56,7 @@ pub data Tokens (strings : List ℕ) : List ℕ → List Token → Type 0 where
       → Tokens strings (a ∷ b ∷ c ∷ d ∷ (padded (name ++ (0 ∷ [])) ++ l)) (begin ∷ ts)
   ends : {a b c d : ℕ} {l : List ℕ} {ts : List Token} → joined a b c d ≡ 2 → Tokens strings l ts → Tokens strings (a ∷ b ∷ c ∷ d ∷ l) (end ∷ ts)
   has : {a b c d e f g h i j k m : ℕ} (p : Property) {l : List ℕ} {ts : List Token} → joined a b c d ≡ 3
-      → joined e f g h ≡ length (p .value) → Named strings (joined i j k m) (p .name) → Tokens strings l ts
+      → joined e f g h ≡ length (p .value) → NameAt strings (joined i j k m) (p .name) → Tokens strings l ts
       → Tokens strings (a ∷ b ∷ c ∷ d ∷ e ∷ f ∷ g ∷ h ∷ i ∷ j ∷ k ∷ m ∷ (padded (p .value) ++ l)) (prop p ∷ ts)
 
 -- nodes side by side: the first one's properties, its children, and the nodes after it. Their names are not kept: nothing goes by them.
@@ -121,9 +121,9 @@ same (x ∷ xs) [] = false
 same (x ∷ xs) (y ∷ ys) = eqb x y && same xs ys
 
 -- "In a node the first property of a name counts"; `otherwise` where it has none
-unfoldable pub valueOf : List ℕ → List ℕ → List Property → List ℕ
-valueOf name otherwise [] = otherwise
-valueOf name otherwise (p ∷ ps) = cond (same (p .name) name) (p .value) (valueOf name otherwise ps)
+unfoldable pub propertyValue : List ℕ → List ℕ → List Property → List ℕ
+propertyValue name otherwise [] = otherwise
+propertyValue name otherwise (p ∷ ps) = cond (same (p .name) name) (p .value) (propertyValue name otherwise ps)
 
 -- "#address-cells", "#size-cells", "device_type", "reg"; "memory" with its zero byte
 abbrev pub addressCells : List ℕ
@@ -158,7 +158,7 @@ pairsOf (suc n) a z v =
 unfoldable pub regsOf : Forest → List (List ℕ)
 regsOf none = []
 regsOf (node ps kids rest) =
-    cond (same (valueOf deviceType [] ps) memoryType) (valueOf regName [] ps ∷ regsOf rest) (regsOf rest)
+    cond (same (propertyValue deviceType [] ps) memoryType) (propertyValue regName [] ps ∷ regsOf rest) (regsOf rest)
 
 -- the pairs of some regs
 unfoldable pub allPairs : ℕ → ℕ → List (List ℕ) → List Pair
@@ -175,14 +175,14 @@ unfoldable pub oneOrTwo : ℕ → Bool
 oneOrTwo n = cond (eqb n 1) true (eqb n 2)
 
 -- what a tree answers: it is invalid (21), its cell counts are unsupported (22), or its pairs
-pub data Answer : Type 0 where
-  invalid : Answer
-  unsupported : Answer
-  pairs : List Pair → Answer
+pub data Said : Type 0 where
+  invalid : Said
+  unsupported : Said
+  pairs : List Pair → Said
 
 -- by the values of the root's cell counts and the regs of its memory children: 21 for "a root cell count not 4 bytes long", or, "where both
 -- counts are 1 or 2", a ragged reg; "then 22 for other cell counts"
-unfoldable pub answerBy : List ℕ → List ℕ → List (List ℕ) → Answer
+unfoldable pub answerBy : List ℕ → List ℕ → List (List ℕ) → Said
 answerBy va vz regs =
     cond (eqb (length va) 4 && eqb (length vz) 4)
     (cond (oneOrTwo (numberFrom 0 va) && oneOrTwo (numberFrom 0 vz))
@@ -192,7 +192,7 @@ answerBy va vz regs =
     invalid
 
 -- what a tree says of memory: "The root's cell counts default to 2 for addresses and 1 for sizes"
-unfoldable pub says : Tree → Answer
+unfoldable pub says : Tree → Said
 says t =
-    answerBy (valueOf addressCells (0 ∷ 0 ∷ 0 ∷ 2 ∷ []) (t .properties)) (valueOf sizeCells (0 ∷ 0 ∷ 0 ∷ 1 ∷ []) (t .properties))
+    answerBy (propertyValue addressCells (0 ∷ 0 ∷ 0 ∷ 2 ∷ []) (t .properties)) (propertyValue sizeCells (0 ∷ 0 ∷ 0 ∷ 1 ∷ []) (t .properties))
     (regsOf (t .children))

@@ -2,7 +2,7 @@
 ghost use mathlib.Core.Path.{_≡_};
 ghost use lib.ListN.{drop};
 ghost use Rattle.fdt_tokens.specs.Devicetree.{joined, hasZero};
-ghost use Rattle.fdt_tokens.specs.Bytes.{wordAt, begins};
+ghost use Rattle.fdt_tokens.specs.Bytes.{be32At, startsWith};
 ghost use Rattle.fdt_tokens.specs.Lex.{nameWord, valueWord, tokenWord, lexWord, isToken, isDone};
 
 // Four bytes as a number, the highest first.
@@ -14,7 +14,7 @@ fn join(a: u8, b: u8, c: u8, d: u8) -> u32
 
 // The big-endian word at `at`; 0 where the slice ends before it does.
 pub fn be32(s: &[u8], at: usize) -> u32
-    ensures { λ r. ⌜ r ≡ wordAt (now (s .entry)) at ⌝ }
+    ensures { λ r. ⌜ r ≡ be32At (now (s .entry)) at ⌝ }
 {
     if s.len() < 4 {
         return 0;
@@ -41,7 +41,7 @@ pub fn terminated(s: &[u8], at: usize) -> bool
 
 // Whether the bytes of `text` stand at `at`.
 pub fn begins_with(s: &[u8], at: usize, text: &[u8]) -> bool
-    ensures { λ r. ⌜ r ≡ begins (now (text .entry)) (drop at (now (s .entry))) ⌝ }
+    ensures { λ r. ⌜ r ≡ startsWith (now (text .entry)) (drop at (now (s .entry))) ⌝ }
 {
     let mut i = at;
     let mut k: usize = 0;

@@ -8,11 +8,11 @@ use lib.Dec.{eqb}
 use lib.ListN.{length, length-append}
 use borrow.Author.Tests.{eq-eqb, ne-eqb, eqb-true}
 use Rattle.fdt_tokens.specs.Devicetree as dt
-use Rattle.fdt_tokens.specs.Devicetree.{Forest, Tree, Pair, Tokens, tokensOf, valueOf, numberFrom, oneOrTwo, allPairs, regsOf, ragged, Answer, answerBy, says, padded}
+use Rattle.fdt_tokens.specs.Devicetree.{Forest, Tree, Pair, Tokens, tokensOf, propertyValue, numberFrom, oneOrTwo, allPairs, regsOf, ragged, Said, answerBy, says, padded}
 use Rattle.fdt_tokens.specs.Lex.{Placed, isDone}
 use Rattle.fdt_tokens.specs.declared.Lexer.the-variants.{Token, Done}
 use Rattle.fdt_tokens.proofs.Lexing.{events, read-whole}
-use Rattle.fdt_nodes.specs.Nodes.{advance, placed, pairBytes, raggedReg, beginNode, endNode, childEnd, ended}
+use Rattle.fdt_nodes.specs.Nodes.{advance, atDepth, pairBytes, raggedReg, beginNode, endNode, childEnd, ended}
 use Rattle.fdt_nodes.specs.Scan.{started, judged, hit, hasPair}
 use Rattle.fdt.specs.Passes.{folded, judgedBlock, pairsMet, pairsFrom}
 use Rattle.fdt_nodes.specs.declared.Verdict.{Verdict}
@@ -25,7 +25,7 @@ use Rattle.fdt_tree.proofs.Children.{RootHas, root-props}
 use Rattle.fdt_tree.proofs.Memory.{raggedRegs, bytes-are, Kids, pairsBy, kids}
 
 -- a verdict, and the pairs where it is accepted, as an answer
-abbrev pub answered : Verdict → List Pair → Answer
+abbrev pub answered : Verdict → List Pair → Said
 answered Accepted ps = dt.pairs ps
 answered Invalid ps = dt.invalid
 answered UnsupportedCellCounts ps = dt.unsupported
@@ -61,12 +61,12 @@ module _ (B S : List ℕ) (short : length B ≤ 65536) where
       let r = f (s .left) (s .meets) in
       record { nodes = r .nodes; folds = s .folds ∙ r .folds; address = r .address; size = r .size; ok = r .ok; finds = s .finds ∙ r .finds }
 
-  begin-root : beginNode (started .nodes) ≡ placed (started .nodes) 1 true true
+  begin-root : beginNode (started .nodes) ≡ atDepth (started .nodes) 1 true true
   unfolding beginNode started
   begin-root = refl
 
   -- the root's end, and FDT_END
-  end-root : (n : Nodes) → n .depth ≡ 1 → endNode n ≡ placed n 0 false (n .rooted)
+  end-root : (n : Nodes) → n .depth ≡ 1 → endNode n ≡ atDepth n 0 false (n .rooted)
   unfolding endNode childEnd
   end-root n d = let e : n .depth - 1 ≡ 0 = omega arith in rw (ne-eqb (n .depth) 0 (λ h. omega arith), e)
 
@@ -88,13 +88,13 @@ module _ (B S : List ℕ) (short : length B ≤ 65536) where
   children-after f n m es va vz d r o b g a =
       let q = kids B S short f m es (dt.end ∷ []) (g .depth ∙ d) b a in
       let k = q .nodes in let h = q .good in let u = q .steps in
-      last k h u (to B S (end-step B S k (u .left) [] (u .meets)) (ap (λ y. found B S y) (end-root k (h .depth)) ∙ end-found (placed k 0 false (k .rooted)) refl) (end-root k (h .depth))) where
+      last k h u (to B S (end-step B S k (u .left) [] (u .meets)) (ap (λ y. found B S y) (end-root k (h .depth)) ∙ end-found (atDepth k 0 false (k .rooted)) refl) (end-root k (h .depth))) where
         last : (k : Nodes) → Kids B S short m (regsOf f) k → (u : Steps B S m es (dt.end ∷ []) (pairsBy B S short m (regsOf f)) k)
-            → Steps B S k (u .left) [] [] (placed k 0 false (k .rooted)) → After m es va vz (regsOf f)
+            → Steps B S k (u .left) [] [] (atDepth k 0 false (k .rooted)) → After m es va vz (regsOf f)
         last k h u v =
             record {
-              nodes = placed k 0 false (k .rooted);
-              folds = u .folds ∙ (v .folds ∙ end-folds (placed k 0 false (k .rooted)) (v .left) refl (h .rooted ∙ (g .rooted ∙ r)) (v .meets));
+              nodes = atDepth k 0 false (k .rooted);
+              folds = u .folds ∙ (v .folds ∙ end-folds (atDepth k 0 false (k .rooted)) (v .left) refl (h .rooted ∙ (g .rooted ∙ r)) (v .meets));
               address = subst (λ y. Cell y va) (sym (h .address)) (g .address);
               size = subst (λ y. Cell y vz) (sym (h .size)) (g .size);
               ok = h .ok
@@ -102,7 +102,7 @@ module _ (B S : List ℕ) (short : length B ≤ 65536) where
                   ∙ (ap (λ y. cond (raggedRegs (k .address .value) (y .value) (regsOf f)) false (m .ok)) (sym (h .size))
                   ∙ ap (λ y. cond (raggedRegs (k .address .value) (k .size .value) (regsOf f)) false y) (g .ok ∙ o)));
               finds = u .finds
-                  ∙ (ap (λ l. pairsBy B S short m (regsOf f) ++ l) (v .finds ∙ end-finds (placed k 0 false (k .rooted)) (v .left) (v .meets))
+                  ∙ (ap (λ l. pairsBy B S short m (regsOf f) ++ l) (v .finds ∙ end-finds (atDepth k 0 false (k .rooted)) (v .left) (v .meets))
                   ∙ (append-nil (pairsBy B S short m (regsOf f))
                   ∙ (ap (λ y. allPairs (cellsOf B (y .value)) (cellsOf B (m .size .value)) (regsOf f)) (sym (h .address))
                   ∙ ap (λ y. allPairs (cellsOf B (k .address .value)) (cellsOf B (y .value)) (regsOf f)) (sym (h .size)))));
@@ -110,20 +110,20 @@ module _ (B S : List ℕ) (short : length B ≤ 65536) where
 
   -- the whole tree
   tree-after : (t : Tree) (reads : Tokens S B (tokensOf (dt.node (t .properties) (t .children) dt.none)))
-      → After (started .nodes) (events reads 0) (valueOf dt.addressCells (0 ∷ 0 ∷ 0 ∷ 2 ∷ []) (t .properties))
-      (valueOf dt.sizeCells (0 ∷ 0 ∷ 0 ∷ 1 ∷ []) (t .properties)) (regsOf (t .children))
+      → After (started .nodes) (events reads 0) (propertyValue dt.addressCells (0 ∷ 0 ∷ 0 ∷ 2 ∷ []) (t .properties))
+      (propertyValue dt.sizeCells (0 ∷ 0 ∷ 0 ∷ 1 ∷ []) (t .properties)) (regsOf (t .children))
   unfolding tokensOf started cellOf numberFrom
   tree-after t reads =
       let b : 2 + nodes (t .children) < 2 ^ 64
       = omega (arith, nodes-short (t .children), tokens-short reads, length-append (map dt.prop (t .properties)) (tokensOf (t .children) ++ (dt.end ∷ [])), length-append (tokensOf (t .children)) (dt.end ∷ [])) in
-      let n = placed (started .nodes) 1 true true in
-      let va = valueOf dt.addressCells (0 ∷ 0 ∷ 0 ∷ 2 ∷ []) (t .properties) in
-      let vz = valueOf dt.sizeCells (0 ∷ 0 ∷ 0 ∷ 1 ∷ []) (t .properties) in
+      let n = atDepth (started .nodes) 1 true true in
+      let va = propertyValue dt.addressCells (0 ∷ 0 ∷ 0 ∷ 2 ∷ []) (t .properties) in
+      let vz = propertyValue dt.sizeCells (0 ∷ 0 ∷ 0 ∷ 1 ∷ []) (t .properties) in
       earlier (to B S (begin-step B S (started .nodes) (events reads 0) (map dt.prop (t .properties) ++ (tokensOf (t .children) ++ (dt.end ∷ []))) (events-meet B S reads 0 refl)) refl begin-root) (λ fs a.
-      let p = root-props B S (t .properties) (placed (started .nodes) 1 true true) fs (tokensOf (t .children) ++ (dt.end ∷ [])) va vz refl refl
+      let p = root-props B S (t .properties) (atDepth (started .nodes) 1 true true) fs (tokensOf (t .children) ++ (dt.end ∷ [])) va vz refl refl
       (record { value = 0 ∷ 0 ∷ 0 ∷ 2 ∷ []; holds = record { long = refl; is = refl }; final = refl })
       (record { value = 0 ∷ 0 ∷ 0 ∷ 1 ∷ []; holds = record { long = refl; is = refl }; final = refl }) a in
-      earlier (p .steps) (λ gs c. children-after (t .children) (placed (started .nodes) 1 true true) (p .nodes) gs va vz refl refl refl b (p .good) c))
+      earlier (p .steps) (λ gs c. children-after (t .children) (atDepth (started .nodes) 1 true true) (p .nodes) gs va vz refl refl refl b (p .good) c))
 
   -- cell counts that are 1 or 2
   cells-same : (n : ℕ) → oneOrTwo n ≡ true → cellsOf B n ≡ n
@@ -187,7 +187,7 @@ module _ (B S : List ℕ) (short : length B ≤ 65536) where
   judged-done m = refl
 
   -- what the reader makes of the state after the whole block
-  abbrev outcome : List (List ℕ) → ℕ → ℕ → ℕ → ℕ → Answer
+  abbrev outcome : List (List ℕ) → ℕ → ℕ → ℕ → ℕ → Said
   outcome regs la lz a z =
       answered (verdict (cond (raggedRegs a z regs) false true) (eqb la 4) (eqb lz 4) a z) (allPairs (cellsOf B a) (cellsOf B z) regs)
 

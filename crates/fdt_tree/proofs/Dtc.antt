@@ -6,13 +6,13 @@ use mathlib.Core.List.{List, [], _∷_}
 use mathlib.Core.Bool.{true≢false}
 use Rattle.fdt_tokens.specs.Devicetree as dt
 use Rattle.fdt_tokens.specs.Devicetree.{hasZero, oneOrTwo}
-use Rattle.fdt_tokens.specs.Bytes.{wordAt, begins}
+use Rattle.fdt_tokens.specs.Bytes.{be32At, startsWith}
 use Rattle.fdt_tokens.specs.Lex.{nameWord, valueWord, tokenWord, lexWord, isDone, put, read}
-use Rattle.fdt_nodes.specs.Nodes.{firstOf, firstNamed, cellAt, badNodes, isMemory, flag, width, pairBytes, raggedReg, beginNode, childEnd, endNode, rootProperty, childProperty, property, ended, advance}
+use Rattle.fdt_nodes.specs.Nodes.{firstKept, firstNamed, cellAt, badNodes, isMemory, flag, width, pairBytes, raggedReg, beginNode, childEnd, endNode, rootProperty, childProperty, property, ended, advance}
 use Rattle.fdt_nodes.specs.Scan.{started, judged, hasPair, hit}
 use Rattle.fdt.specs.Passes.{folded, judgedBlock, cellsAt, pairsAt, regPairs, pairsMet, pairsFrom, leftIn}
 use Rattle.fdt_tree.proofs.Theorems.{isInvalid, Says, answer-said}
-use Rattle.fdt.specs.Blob.{memoryBy, zeroEntry, listEnds, headerOk, blocksMemory, blobMemory, memoryOf, insideOf, pairsLeft, answerIn, answerOf}
+use Rattle.fdt.specs.Blob.{memoryBy, zeroEntry, listEnds, headerOk, blocksMemory, blobMemory, memoryOf, insideOf, pairsLeft, memoryAnswer, blobAnswer}
 
 abbrev pub dtc : List ℕ
 dtc =
@@ -40,8 +40,8 @@ board =
     ∷ []
 
 -- what the reader answers, by computation
-pub dtc-answer : answerOf dtc ≡ dt.pairs board
-unfolding answerOf pairsLeft insideOf memoryOf blobMemory blocksMemory headerOk listEnds zeroEntry memoryBy answerIn leftIn pairsFrom pairsMet regPairs pairsAt cellsAt judgedBlock folded hit hasPair judged started advance ended property childProperty rootProperty endNode childEnd beginNode raggedReg pairBytes width flag isMemory badNodes cellAt firstNamed firstOf read put isDone lexWord tokenWord valueWord nameWord begins wordAt oneOrTwo hasZero
+pub dtc-answer : blobAnswer dtc ≡ dt.pairs board
+unfolding blobAnswer pairsLeft insideOf memoryOf blobMemory blocksMemory headerOk listEnds zeroEntry memoryBy memoryAnswer leftIn pairsFrom pairsMet regPairs pairsAt cellsAt judgedBlock folded hit hasPair judged started advance ended property childProperty rootProperty endNode childEnd beginNode raggedReg pairBytes width flag isMemory badNodes cellAt firstNamed firstKept read put isDone lexWord tokenWord valueWord nameWord startsWith be32At oneOrTwo hasZero
 dtc-answer = refl
 
 -- so there is a tree that it is a blob of, and the tree says these pairs

@@ -8,9 +8,9 @@ use lib.Dec.{ltb}
 use lib.ListN.{length, length-append, length-drop}
 use borrow.Author.Tests.{eq-eqb, ne-eqb, ltb-true, ltb-false}
 use Rattle.fdt_tokens.specs.Devicetree as dt
-use Rattle.fdt_tokens.specs.Devicetree.{Property, Forest, Pair, tokensOf, same, valueOf, memoryType, pairsOf, allPairs, regsOf}
+use Rattle.fdt_tokens.specs.Devicetree.{Property, Forest, Pair, tokensOf, same, propertyValue, memoryType, pairsOf, allPairs, regsOf}
 use Rattle.fdt_tokens.specs.Lex.{Placed}
-use Rattle.fdt_nodes.specs.Nodes.{absent, placed, withChild, badNodes, isMemory, pairBytes, raggedReg, beginNode, endNode, childEnd}
+use Rattle.fdt_nodes.specs.Nodes.{absent, atDepth, withChild, badNodes, isMemory, pairBytes, raggedReg, beginNode, endNode, childEnd}
 use Rattle.fdt_nodes.specs.Scan.{hasPair}
 use Rattle.fdt_nodes.proofs.Laws.{whole}
 use Rattle.fdt.specs.Passes.{regPairs, pairsAt}
@@ -86,10 +86,10 @@ module _ (B S : List ℕ) (short : length B ≤ 65536) where
 
   -- a child, by its tree
   abbrev isKind : List Property → Bool
-  isKind ps = same (valueOf dt.deviceType [] ps) memoryType
+  isKind ps = same (propertyValue dt.deviceType [] ps) memoryType
 
   abbrev regIn : List Property → List ℕ
-  regIn ps = valueOf dt.regName [] ps
+  regIn ps = propertyValue dt.regName [] ps
 
   record Done (n : Nodes) (ps : List Property) (m : Nodes) : Type 0 where
     depth : m .depth ≡ 1
@@ -98,11 +98,11 @@ module _ (B S : List ℕ) (short : length B ≤ 65536) where
     size : m .size ≡ n .size
     ok : m .ok ≡ cond (isKind ps) (cond (raggedReg (length (regIn ps)) (n .address .value) (n .size .value)) false (n .ok)) (n .ok)
 
-  begin-child : (n : Nodes) → n .depth ≡ 1 → beginNode n ≡ withChild (placed n 2 true (n .rooted)) absent absent
+  begin-child : (n : Nodes) → n .depth ≡ 1 → beginNode n ≡ withChild (atDepth n 2 true (n .rooted)) absent absent
   unfolding beginNode
   begin-child n d = rw (ne-eqb (n .depth) 0 (λ h. omega arith), eq-eqb (n .depth) 1 d)
 
-  end-child : (m : Nodes) (q : Bool) → m .depth ≡ 2 → endNode (placed m (m .depth) q (m .rooted)) ≡ childEnd (placed m 1 false (m .rooted))
+  end-child : (m : Nodes) (q : Bool) → m .depth ≡ 2 → endNode (atDepth m (m .depth) q (m .rooted)) ≡ childEnd (atDepth m 1 false (m .rooted))
   unfolding endNode
   end-child m q d = let e : m .depth - 1 ≡ 1 = omega arith in rw (ne-eqb (m .depth) 0 (λ h. omega arith), e)
 
@@ -111,11 +111,11 @@ module _ (B S : List ℕ) (short : length B ≤ 65536) where
   okAfter t w a z o = cond t (cond (raggedReg w (a .value) (z .value)) false o) o
 
   child-done : (n m : Nodes) (ps : List Property) (q : Bool) (es : List Placed) (us : List dt.Token)
-      → ChildHas B S (withChild (placed n 2 true (n .rooted)) absent absent) (valueOf dt.deviceType [] ps) (regIn ps) m
+      → ChildHas B S (withChild (atDepth n 2 true (n .rooted)) absent absent) (propertyValue dt.deviceType [] ps) (regIn ps) m
       → Meets B S (dt.end ∷ us) es
-      → Reaches B S (placed m (m .depth) q (m .rooted)) es us (cond (isKind ps) (regOf (n .address .value) (n .size .value) (regIn ps)) []) (λ m. Done n ps m)
+      → Reaches B S (atDepth m (m .depth) q (m .rooted)) es us (cond (isKind ps) (regOf (n .address .value) (n .size .value) (regIn ps)) []) (λ m. Done n ps m)
   child-done n m ps q es us g a =
-      let x = placed m 1 false (m .rooted) in
+      let x = atDepth m 1 false (m .rooted) in
       let e = end-child m q (g .depth) in
       let j = child-end x refl in
       record {
@@ -132,8 +132,8 @@ module _ (B S : List ℕ) (short : length B ≤ 65536) where
               ∙ (ap (λ y. okAfter (isKind ps) (length (regIn ps)) (n .address) y (m .ok)) (g .size)
               ∙ ap (λ o. okAfter (isKind ps) (length (regIn ps)) (n .address) (n .size) o) (g .ok)))));
         };
-        steps = to B S (end-step B S (placed m (m .depth) q (m .rooted)) es us a)
-            (ap (λ y. found B S y) e ∙ (j .finds ∙ (child-found x (valueOf dt.deviceType [] ps) (regIn ps) refl (g .kind) (g .reg)
+        steps = to B S (end-step B S (atDepth m (m .depth) q (m .rooted)) es us a)
+            (ap (λ y. found B S y) e ∙ (j .finds ∙ (child-found x (propertyValue dt.deviceType [] ps) (regIn ps) refl (g .kind) (g .reg)
             ∙ (ap (λ y. cond (isKind ps) (regOf (y .value) (m .size .value) (regIn ps)) []) (g .address)
             ∙ ap (λ y. cond (isKind ps) (regOf (n .address .value) (y .value) (regIn ps)) []) (g .size))))) e;
       }
@@ -144,11 +144,11 @@ module _ (B S : List ℕ) (short : length B ≤ 65536) where
   unfolding isMemory same
   child ps k n es us d b a =
       andThen B S (to B S (begin-step B S n es (map dt.prop ps ++ (tokensOf k ++ (dt.end ∷ us))) a) refl (begin-child n d)) (λ fs a₁.
-      let p = child-props B S ps (withChild (placed n 2 true (n .rooted)) absent absent) fs (tokensOf k ++ (dt.end ∷ us)) (valueOf dt.deviceType [] ps) (regIn ps) refl refl
+      let p = child-props B S ps (withChild (atDepth n 2 true (n .rooted)) absent absent) fs (tokensOf k ++ (dt.end ∷ us)) (propertyValue dt.deviceType [] ps) (regIn ps) refl refl
       (record { value = []; holds = record { is = refl }; final = refl })
       (record { value = []; holds = record { long = refl; rest = B; stands = refl }; final = refl }) a₁ in
       andThen B S (p .steps) (λ gs a₂. below (p .nodes) gs (p .good) a₂)) where
-        below : (m : Nodes) (gs : List Placed) → ChildHas B S (withChild (placed n 2 true (n .rooted)) absent absent) (valueOf dt.deviceType [] ps) (regIn ps) m
+        below : (m : Nodes) (gs : List Placed) → ChildHas B S (withChild (atDepth n 2 true (n .rooted)) absent absent) (propertyValue dt.deviceType [] ps) (regIn ps) m
             → Meets B S (tokensOf k ++ (dt.end ∷ us)) gs
             → Reaches B S m gs us (cond (isKind ps) (regOf (n .address .value) (n .size .value) (regIn ps)) []) (λ m. Done n ps m)
         below m gs g a₂ =

@@ -18,7 +18,7 @@ use Rattle.fdt_tokens.proofs.Laws.{impossible}
 use Rattle.fdt_tokens.proofs.Lexing.{events, read-whole}
 use Rattle.fdt_tokens.proofs.Sound.{Closes, Closed, sound}
 use Rattle.fdt_tokens.proofs.Grammar.{fits, whole, accepted-whole}
-use Rattle.fdt_nodes.specs.Nodes.{absent, placed, withChild, badNodes, isMemory, raggedReg, beginNode, childEnd, endNode, rootProperty, childProperty, property, ended, advance}
+use Rattle.fdt_nodes.specs.Nodes.{absent, atDepth, withChild, badNodes, isMemory, raggedReg, beginNode, childEnd, endNode, rootProperty, childProperty, property, ended, advance}
 use Rattle.fdt_nodes.specs.Scan.{started, judged}
 use Rattle.fdt.specs.Passes.{folded, judgedBlock}
 use Rattle.fdt_nodes.specs.declared.Nodes.{Nodes}
@@ -67,7 +67,7 @@ property-allowed B S i n w o = go (n .props) (hasZero (drop o S)) (eqb (n .depth
 begin-ok : (n : Nodes) → beginNode n .ok ≡ true → n .ok ≡ true
 unfolding beginNode badNodes
 begin-ok n h = go (eqb (n .depth) 0) (n .rooted) (eqb (n .depth) 1) h where
-  go : (t u v : Bool) → cond t (cond u (badNodes n) (placed n 1 true true)) (cond v (withChild (placed n 2 true (n .rooted)) absent absent) (placed n ((n .depth + 1) % 2 ^ 64) true (n .rooted))) .ok ≡ true → n .ok ≡ true
+  go : (t u v : Bool) → cond t (cond u (badNodes n) (atDepth n 1 true true)) (cond v (withChild (atDepth n 2 true (n .rooted)) absent absent) (atDepth n ((n .depth + 1) % 2 ^ 64) true (n .rooted))) .ok ≡ true → n .ok ≡ true
   go true true v h = impossible h
   go true false v h = h
   go false u true h = h
@@ -85,8 +85,8 @@ unfolding beginNode badNodes
 begin-shape n r h = go (eqb (n .depth) 0) (eqb (n .depth) 1) refl refl h where
   made : Bool → Bool → Nodes
   made t u =
-      cond t (cond (n .rooted) (badNodes n) (placed n 1 true true))
-      (cond u (withChild (placed n 2 true (n .rooted)) absent absent) (placed n ((n .depth + 1) % 2 ^ 64) true (n .rooted)))
+      cond t (cond (n .rooted) (badNodes n) (atDepth n 1 true true))
+      (cond u (withChild (atDepth n 2 true (n .rooted)) absent absent) (atDepth n ((n .depth + 1) % 2 ^ 64) true (n .rooted)))
 
   go : (t u : Bool) → eqb (n .depth) 0 ≡ t → eqb (n .depth) 1 ≡ u → made t u .ok ≡ true → Begun n (made t u)
   go true true e f h = impossible (rw r at h)
@@ -94,14 +94,14 @@ begin-shape n r h = go (eqb (n .depth) 0) (eqb (n .depth) 1) refl refl h where
   go false true e f h = let k = eqb-true (n .depth) 1 f in record { inside = omega arith; depth = omega arith; props = refl; rooted = r }
   go false false e f h = let k = eqb-false (n .depth) 0 e in record { inside = omega arith; depth = refl; props = refl; rooted = r }
 
-end-kept : (n : Nodes) → 0 < n .depth → Kept (placed n (n .depth - 1) false (n .rooted)) (endNode n)
+end-kept : (n : Nodes) → 0 < n .depth → Kept (atDepth n (n .depth - 1) false (n .rooted)) (endNode n)
 unfolding endNode
-end-kept n h = rw (ne-eqb (n .depth) 0 (λ e. omega arith)) (child-kept (placed n (n .depth - 1) false (n .rooted)))
+end-kept n h = rw (ne-eqb (n .depth) 0 (λ e. omega arith)) (child-kept (atDepth n (n .depth - 1) false (n .rooted)))
 
 end-inside : (n : Nodes) → endNode n .ok ≡ true → 0 < n .depth
 unfolding endNode badNodes
 end-inside n h = go (eqb (n .depth) 0) refl h where
-  go : (t : Bool) → eqb (n .depth) 0 ≡ t → cond t (badNodes n) (childEnd (placed n (n .depth - 1) false (n .rooted))) .ok ≡ true → 0 < n .depth
+  go : (t : Bool) → eqb (n .depth) 0 ≡ t → cond t (badNodes n) (childEnd (atDepth n (n .depth - 1) false (n .rooted))) .ok ≡ true → 0 < n .depth
   go true e h = impossible h
   go false e h = let k = eqb-false (n .depth) 0 e in omega arith
 
@@ -119,7 +119,7 @@ ended-ok n h = go (eqb (n .depth) 0) (n .rooted) refl refl h where
   go true false e f h = impossible h
   go false u e f h = impossible h
 
-begin-root : (n : Nodes) → n .depth ≡ 0 → n .rooted ≡ false → beginNode n ≡ placed n 1 true true
+begin-root : (n : Nodes) → n .depth ≡ 0 → n .rooted ≡ false → beginNode n ≡ atDepth n 1 true true
 unfolding beginNode
 begin-root n e r = rw (eq-eqb (n .depth) 0 e, r)
 
@@ -200,7 +200,7 @@ module _ (B S : List ℕ) where
   root-shape (dt.last e) i n hd hp hr b h = impossible (sym hr ∙ ended-ok n h .rooted)
   root-shape (dt.nop e t) i n hd hp hr b h = root-shape t (i + 4) n hd hp hr (omega arith) h
   root-shape (dt.begins name {l = l} e f t) i n hd hp hr b h =
-      shape t (i + 4 + length (padded (name ++ (0 ∷ [])))) (placed n 1 true true) 1 true refl refl refl (λ x. omega arith)
+      shape t (i + 4 + length (padded (name ++ (0 ∷ [])))) (atDepth n 1 true true) 1 true refl refl refl (λ x. omega arith)
       (omega (arith, length-append (padded (name ++ (0 ∷ []))) l))
       (subst (λ m. folded B S m (events t (i + 4 + length (padded (name ++ (0 ∷ []))))) .ok ≡ true) (begin-root n hd hr) h)
   root-shape (dt.ends e t) i n hd hp hr b h =

@@ -10,11 +10,11 @@ use lib.Seq.{length-take-le, take-append-seam}
 use borrow.Author.Tests.{eq-eqb, eqb-true, le-ltb, ltb-false}
 use Rattle.fdt_tokens.specs.Devicetree as dt
 use Rattle.fdt_tokens.specs.Devicetree.{Tree, Tokens, tokensOf, field, span, BlobOf, says}
-use Rattle.fdt_tokens.specs.Bytes.{wordAt}
+use Rattle.fdt_tokens.specs.Bytes.{be32At}
 use Rattle.fdt_tokens.proofs.Laws.{impossible}
 use Rattle.fdt_nodes.specs.Scan.{started}
 use Rattle.fdt.specs.Passes.{judgedBlock, pairsFrom, pairsAt, leftIn}
-use Rattle.fdt.specs.Blob.{part, blockOf, stringsOf, blocksAt, cursorAt, listEnds, headerOk, memoryBy, blocksMemory, blobMemory, memoryOf, insideOf, pairsLeft, answerIn, answerOf}
+use Rattle.fdt.specs.Blob.{part, blockOf, stringsOf, blocksAt, cursorAt, listEnds, headerOk, memoryBy, blocksMemory, blobMemory, memoryOf, insideOf, pairsLeft, memoryAnswer, blobAnswer}
 use Rattle.fdt.specs.declared.Memory.{Memory}
 use Rattle.fdt.specs.declared.Memory.the-variants.{Invalid}
 use Rattle.fdt_nodes.specs.declared.Verdict.{Verdict}
@@ -29,20 +29,20 @@ use Rattle.fdt_tree.proofs.Header.{span-is, field-is, ends-listed, list
 -- what the reader tests of a slice before it reads the structure block
 record Tested (s : List ℕ) : Type 0 where
   long : 40 ≤ length s
-  least : 40 ≤ wordAt s 4
-  most : wordAt s 4 ≤ 65536
-  whole : wordAt s 4 ≤ length s
-  magic : wordAt s 0 ≡ 0xD00DFEED
-  version : 17 ≤ wordAt s 20
-  compatible : wordAt s 24 ≤ 17
-  aligned-list : wordAt s 16 % 8 ≡ 0
-  aligned-struct : wordAt s 8 % 4 ≡ 0
-  list : listEnds s (wordAt s 16) ((wordAt s 4 - wordAt s 16) / 16) ≡ true
-  struct-inside : wordAt s 8 + wordAt s 36 ≤ wordAt s 4
-  strings-inside : wordAt s 12 + wordAt s 32 ≤ wordAt s 4
+  least : 40 ≤ be32At s 4
+  most : be32At s 4 ≤ 65536
+  whole : be32At s 4 ≤ length s
+  magic : be32At s 0 ≡ 0xD00DFEED
+  version : 17 ≤ be32At s 20
+  compatible : be32At s 24 ≤ 17
+  aligned-list : be32At s 16 % 8 ≡ 0
+  aligned-struct : be32At s 8 % 4 ≡ 0
+  list : listEnds s (be32At s 16) ((be32At s 4 - be32At s 16) / 16) ≡ true
+  struct-inside : be32At s 8 + be32At s 36 ≤ be32At s 4
+  strings-inside : be32At s 12 + be32At s 32 ≤ be32At s 4
 
 abbrev blocksOf : List ℕ → Blocks
-blocksOf s = blocksAt (wordAt s 8) (wordAt s 8 + wordAt s 36) (wordAt s 12) (wordAt s 12 + wordAt s 32)
+blocksOf s = blocksAt (be32At s 8) (be32At s 8 + be32At s 36) (be32At s 12) (be32At s 12 + be32At s 32)
 
 -- where the tests pass the blocks decide
 tested-memory : (s : List ℕ) → Tested s → memoryOf s ≡ blocksMemory s (blocksOf s)
@@ -50,17 +50,17 @@ unfolding memoryOf blobMemory headerOk
 tested-memory s x =
     rw (
       le-ltb (length s) 40 (x .long),
-      le-ltb (wordAt s 4) 40 (x .least),
-      le-ltb 65536 (wordAt s 4) (x .most),
-      le-ltb (length s) (wordAt s 4) (x .whole),
-      eq-eqb (wordAt s 0) 0xD00DFEED (x .magic),
-      le-ltb (wordAt s 20) 17 (x .version),
-      le-ltb 17 (wordAt s 24) (x .compatible),
-      eq-eqb (wordAt s 16 % 8) 0 (x .aligned-list),
-      eq-eqb (wordAt s 8 % 4) 0 (x .aligned-struct),
+      le-ltb (be32At s 4) 40 (x .least),
+      le-ltb 65536 (be32At s 4) (x .most),
+      le-ltb (length s) (be32At s 4) (x .whole),
+      eq-eqb (be32At s 0) 0xD00DFEED (x .magic),
+      le-ltb (be32At s 20) 17 (x .version),
+      le-ltb 17 (be32At s 24) (x .compatible),
+      eq-eqb (be32At s 16 % 8) 0 (x .aligned-list),
+      eq-eqb (be32At s 8 % 4) 0 (x .aligned-struct),
       x .list,
-      le-ltb (wordAt s 4) (wordAt s 8 + wordAt s 36) (x .struct-inside),
-      le-ltb (wordAt s 4) (wordAt s 12 + wordAt s 32) (x .strings-inside),
+      le-ltb (be32At s 4) (be32At s 8 + be32At s 36) (x .struct-inside),
+      le-ltb (be32At s 4) (be32At s 12 + be32At s 32) (x .strings-inside),
     )
 
 -- a slice that is not invalid passed each test
@@ -73,12 +73,12 @@ past-header true m h = (refl, h)
 past-header false m h = absurd (h refl)
 
 header-tested : (s : List ℕ) (n : ℕ) → headerOk s n ≡ true
-    → (wordAt s 0 ≡ 0xD00DFEED) × ((17 ≤ wordAt s 20) × ((wordAt s 24 ≤ 17) × ((wordAt s 16 % 8 ≡ 0) × ((wordAt s 8 % 4 ≡ 0) × (listEnds s (wordAt s 16) ((n - wordAt s 16) / 16) ≡ true)))))
+    → (be32At s 0 ≡ 0xD00DFEED) × ((17 ≤ be32At s 20) × ((be32At s 24 ≤ 17) × ((be32At s 16 % 8 ≡ 0) × ((be32At s 8 % 4 ≡ 0) × (listEnds s (be32At s 16) ((n - be32At s 16) / 16) ≡ true)))))
 unfolding headerOk
-header-tested s n h = go (eqb (wordAt s 0) 0xD00DFEED) (ltb (wordAt s 20) 17) (ltb 17 (wordAt s 24)) (eqb (wordAt s 16 % 8) 0) (eqb (wordAt s 8 % 4) 0) refl refl refl refl refl h where
-  go : (t u v x y : Bool) → eqb (wordAt s 0) 0xD00DFEED ≡ t → ltb (wordAt s 20) 17 ≡ u → ltb 17 (wordAt s 24) ≡ v → eqb (wordAt s 16 % 8) 0 ≡ x → eqb (wordAt s 8 % 4) 0 ≡ y
-      → cond t (cond u false (cond v false (cond x (cond y (listEnds s (wordAt s 16) ((n - wordAt s 16) / 16)) false) false))) false ≡ true
-      → (wordAt s 0 ≡ 0xD00DFEED) × ((17 ≤ wordAt s 20) × ((wordAt s 24 ≤ 17) × ((wordAt s 16 % 8 ≡ 0) × ((wordAt s 8 % 4 ≡ 0) × (listEnds s (wordAt s 16) ((n - wordAt s 16) / 16) ≡ true)))))
+header-tested s n h = go (eqb (be32At s 0) 0xD00DFEED) (ltb (be32At s 20) 17) (ltb 17 (be32At s 24)) (eqb (be32At s 16 % 8) 0) (eqb (be32At s 8 % 4) 0) refl refl refl refl refl h where
+  go : (t u v x y : Bool) → eqb (be32At s 0) 0xD00DFEED ≡ t → ltb (be32At s 20) 17 ≡ u → ltb 17 (be32At s 24) ≡ v → eqb (be32At s 16 % 8) 0 ≡ x → eqb (be32At s 8 % 4) 0 ≡ y
+      → cond t (cond u false (cond v false (cond x (cond y (listEnds s (be32At s 16) ((n - be32At s 16) / 16)) false) false))) false ≡ true
+      → (be32At s 0 ≡ 0xD00DFEED) × ((17 ≤ be32At s 20) × ((be32At s 24 ≤ 17) × ((be32At s 16 % 8 ≡ 0) × ((be32At s 8 % 4 ≡ 0) × (listEnds s (be32At s 16) ((n - be32At s 16) / 16) ≡ true)))))
   go true false false true true a b c d e h = (eqb-true _ _ a, (ltb-false _ _ b, (ltb-false _ _ c, (eqb-true _ _ d, (eqb-true _ _ e, h)))))
   go false u v x y a b c d e h = impossible h
   go true true v x y a b c d e h = impossible h
@@ -90,21 +90,21 @@ header-tested s n h = go (eqb (wordAt s 0) 0xD00DFEED) (ltb (wordAt s 20) 17) (l
 valid-tested : (s : List ℕ) → (memoryOf s ≡ Invalid → ⊥) → Tested s
 unfolding memoryOf blobMemory
 valid-tested s h =
-    let m₄ = blobMemory s (wordAt s 4) in
-    let m₃ = cond (ltb (length s) (wordAt s 4)) Invalid m₄ in
-    let m₂ = cond (ltb 65536 (wordAt s 4)) Invalid m₃ in
-    let m₁ = cond (ltb (wordAt s 4) 40) Invalid m₂ in
+    let m₄ = blobMemory s (be32At s 4) in
+    let m₃ = cond (ltb (length s) (be32At s 4)) Invalid m₄ in
+    let m₂ = cond (ltb 65536 (be32At s 4)) Invalid m₃ in
+    let m₁ = cond (ltb (be32At s 4) 40) Invalid m₂ in
     let a = past (ltb (length s) 40) m₁ h in
-    let b = past (ltb (wordAt s 4) 40) m₂ (a .1) in
-    let c = past (ltb 65536 (wordAt s 4)) m₃ (b .1) in
-    let d = past (ltb (length s) (wordAt s 4)) m₄ (c .1) in
+    let b = past (ltb (be32At s 4) 40) m₂ (a .1) in
+    let c = past (ltb 65536 (be32At s 4)) m₃ (b .1) in
+    let d = past (ltb (length s) (be32At s 4)) m₄ (c .1) in
     let k₂ = blocksMemory s (blocksOf s) in
-    let k₁ = cond (ltb (wordAt s 4) (wordAt s 12 + wordAt s 32)) Invalid k₂ in
-    let k = cond (ltb (wordAt s 4) (wordAt s 8 + wordAt s 36)) Invalid k₁ in
-    let e = past-header (headerOk s (wordAt s 4)) k (d .1) in
-    let f = past (ltb (wordAt s 4) (wordAt s 8 + wordAt s 36)) k₁ (e .1) in
-    let g = past (ltb (wordAt s 4) (wordAt s 12 + wordAt s 32)) k₂ (f .1) in
-    let x = header-tested s (wordAt s 4) (e .0) in
+    let k₁ = cond (ltb (be32At s 4) (be32At s 12 + be32At s 32)) Invalid k₂ in
+    let k = cond (ltb (be32At s 4) (be32At s 8 + be32At s 36)) Invalid k₁ in
+    let e = past-header (headerOk s (be32At s 4)) k (d .1) in
+    let f = past (ltb (be32At s 4) (be32At s 8 + be32At s 36)) k₁ (e .1) in
+    let g = past (ltb (be32At s 4) (be32At s 12 + be32At s 32)) k₂ (f .1) in
+    let x = header-tested s (be32At s 4) (e .0) in
     record {
       long = ltb-false _ _ (a .0);
       least = ltb-false _ _ (b .0);
@@ -133,11 +133,11 @@ inside n from to a b c = rw (le-ltb 65536 to a, le-ltb n to b, le-ltb to from c)
 
 -- the answer of the blocks is that of the structure block, read to its end
 blocks-answered : (s : List ℕ) (b : Blocks) → insideOf (length s) (b .block .from) (b .block .to) ≡ true → insideOf (length s) (b .strings .from) (b .strings .to) ≡ true
-    → answerIn s (blocksMemory s b)
+    → memoryAnswer s (blocksMemory s b)
     ≡ answered (judgedBlock (blockOf s b) (stringsOf s b)) (pairsFrom (blockOf s b) (stringsOf s b) 0 Token (started .nodes) (blockOf s b))
-unfolding blocksMemory memoryBy answerIn
+unfolding blocksMemory memoryBy memoryAnswer
 blocks-answered s b h k = go (judgedBlock (blockOf s b) (stringsOf s b)) where
-  go : (v : Verdict) → answerIn s (memoryBy v b) ≡ answered v (pairsFrom (blockOf s b) (stringsOf s b) 0 Token (started .nodes) (blockOf s b))
+  go : (v : Verdict) → memoryAnswer s (memoryBy v b) ≡ answered v (pairsFrom (blockOf s b) (stringsOf s b) 0 Token (started .nodes) (blockOf s b))
   go verdict.Accepted = ap (λ ps. dt.pairs ps) (first-pairs s b h k)
   go verdict.Invalid = refl
   go verdict.UnsupportedCellCounts = refl
@@ -163,7 +163,7 @@ blob-tested s t x =
       compatible = omega arith;
       aligned-list = ap (λ k. k % 8) f₁₆ ∙ x .aligned-list;
       aligned-struct = ap (λ k. k % 4) f₈ ∙ x .aligned-struct;
-      list = ap (λ k. listEnds s k ((wordAt s 4 - k) / 16)) f₁₆
+      list = ap (λ k. listEnds s k ((be32At s 4 - k) / 16)) f₁₆
           ∙ (ap (λ k. listEnds s (field b 16) ((k - field b 16) / 16)) f₄ ∙ ends-listed s b r (field b 16) (x .front) (x .list-ends));
       struct-inside = omega arith;
       strings-inside = omega arith;
@@ -176,15 +176,15 @@ part-is s b r at n {at′ = at′} {n′ = n′} e p q h =
     ap (λ x. take x (drop at s)) k ∙ (ap (λ x. take n′ (drop x s)) p ∙ span-is s b r at′ n′ e h)
 
 -- the two parts lie inside
-tested-struct : (s : List ℕ) → Tested s → insideOf (length s) (wordAt s 8) (wordAt s 8 + wordAt s 36) ≡ true
+tested-struct : (s : List ℕ) → Tested s → insideOf (length s) (be32At s 8) (be32At s 8 + be32At s 36) ≡ true
 tested-struct s x =
     let a = x .most in let b = x .struct-inside in let c = x .whole in
-    inside (length s) (wordAt s 8) (wordAt s 8 + wordAt s 36) (omega arith) (omega arith) (omega arith)
+    inside (length s) (be32At s 8) (be32At s 8 + be32At s 36) (omega arith) (omega arith) (omega arith)
 
-tested-strings : (s : List ℕ) → Tested s → insideOf (length s) (wordAt s 12) (wordAt s 12 + wordAt s 32) ≡ true
+tested-strings : (s : List ℕ) → Tested s → insideOf (length s) (be32At s 12) (be32At s 12 + be32At s 32) ≡ true
 tested-strings s x =
     let a = x .most in let b = x .strings-inside in let c = x .whole in
-    inside (length s) (wordAt s 12) (wordAt s 12 + wordAt s 32) (omega arith) (omega arith) (omega arith)
+    inside (length s) (be32At s 12) (be32At s 12 + be32At s 32) (omega arith) (omega arith) (omega arith)
 
 -- the blocks as the reader takes them
 abbrev structBlock : List ℕ → List ℕ
@@ -193,19 +193,19 @@ structBlock s = blockOf s (blocksOf s)
 abbrev stringsBlock : List ℕ → List ℕ
 stringsBlock s = stringsOf s (blocksOf s)
 
-tested-answer : (s : List ℕ) → Tested s → answerOf s ≡ answered (judgedBlock (structBlock s) (stringsBlock s)) (pairsFrom (structBlock s) (stringsBlock s) 0 Token (started .nodes) (structBlock s))
-unfolding answerOf
-tested-answer s x = ap (λ m. answerIn s m) (tested-memory s x) ∙ blocks-answered s (blocksOf s) (tested-struct s x) (tested-strings s x)
+tested-answer : (s : List ℕ) → Tested s → blobAnswer s ≡ answered (judgedBlock (structBlock s) (stringsBlock s)) (pairsFrom (structBlock s) (stringsBlock s) 0 Token (started .nodes) (structBlock s))
+unfolding blobAnswer
+tested-answer s x = ap (λ m. memoryAnswer s m) (tested-memory s x) ∙ blocks-answered s (blocksOf s) (tested-struct s x) (tested-strings s x)
 
 short-part : (s : List ℕ) (n at : ℕ) → n ≤ 65536 → length (take n (drop at s)) ≤ 65536
 short-part s n at h = omega (arith, length-take n (drop at s))
 
 -- THEOREM 2. Of a slice that is a blob of a tree the reader answers what the tree says, all its pairs in order.
-pub blob-answered : (s : List ℕ) (t : Tree) → BlobOf s t → answerOf s ≡ says t
+pub blob-answered : (s : List ℕ) (t : Tree) → BlobOf s t → blobAnswer s ≡ says t
 blob-answered s t x =
     let y = blob-tested s t x in let b = x .blob in let r = x .rest in let l = x .least in let m = x .most in let i = x .struct-inside in
-    let p = part-is s b r (wordAt s 8) (wordAt s 36) (x .front) (field-is s b r 8 (x .front) (omega arith)) (field-is s b r 36 (x .front) (omega arith)) (x .struct-inside) in
-    let q = part-is s b r (wordAt s 12) (wordAt s 32) (x .front) (field-is s b r 12 (x .front) (omega arith)) (field-is s b r 32 (x .front) (omega arith)) (x .strings-inside) in
+    let p = part-is s b r (be32At s 8) (be32At s 36) (x .front) (field-is s b r 8 (x .front) (omega arith)) (field-is s b r 36 (x .front) (omega arith)) (x .struct-inside) in
+    let q = part-is s b r (be32At s 12) (be32At s 32) (x .front) (field-is s b r 12 (x .front) (omega arith)) (field-is s b r 32 (x .front) (omega arith)) (x .strings-inside) in
     tested-answer s y
     ∙ (ap (λ B. answered (judgedBlock B (stringsBlock s)) (pairsFrom B (stringsBlock s) 0 Token (started .nodes) B)) p
     ∙ (ap (λ S. answered (judgedBlock (span b (field b 8) (field b 36)) S) (pairsFrom (span b (field b 8) (field b 36)) S 0 Token (started .nodes) (span b (field b 8) (field b 36)))) q
@@ -224,7 +224,7 @@ blocks-invalid s b e = ap (λ v. memoryBy v b) e
 -- a slice that passes the tests is a header and two blocks
 tested-blob : (s : List ℕ) → Tested s → Formed (stringsBlock s) (structBlock s) → Blob s
 tested-blob s x f =
-    let n = wordAt s 4 in let w = x .whole in
+    let n = be32At s 4 in let w = x .whole in
     let b = take n s in let r = drop n s in
     let e : s ≡ b ++ r = sym (take-append-drop n s) in
     let l : length b ≡ n = length-take-le n s w in
@@ -232,8 +232,8 @@ tested-blob s x f =
     let f₄ = field-is s b r 4 e (omega arith) in let f₁₆ = field-is s b r 16 e (omega arith) in let f₈ = field-is s b r 8 e (omega arith) in
     let f₃₆ = field-is s b r 36 e (omega arith) in let f₁₂ = field-is s b r 12 e (omega arith) in let f₃₂ = field-is s b r 32 e (omega arith) in
     let f₂₀ = field-is s b r 20 e (omega arith) in let f₂₄ = field-is s b r 24 e (omega arith) in
-    let p = part-is s b r (wordAt s 8) (wordAt s 36) e f₈ f₃₆ (omega arith) in
-    let q = part-is s b r (wordAt s 12) (wordAt s 32) e f₁₂ f₃₂ (omega arith) in
+    let p = part-is s b r (be32At s 8) (be32At s 36) e f₈ f₃₆ (omega arith) in
+    let q = part-is s b r (be32At s 12) (be32At s 32) e f₁₂ f₃₂ (omega arith) in
     record {
       tree = f .tree;
       is = record {
@@ -248,7 +248,7 @@ tested-blob s x f =
         compatible = omega arith;
         aligned-list = sym (ap (λ y. y % 8) f₁₆) ∙ x .aligned-list;
         list-ends = listed-ends s b r (field b 16) e
-            (ap (λ y. listEnds s (field b 16) ((y - field b 16) / 16)) l ∙ (sym (ap (λ y. listEnds s y ((wordAt s 4 - y) / 16)) f₁₆) ∙ x .list));
+            (ap (λ y. listEnds s (field b 16) ((y - field b 16) / 16)) l ∙ (sym (ap (λ y. listEnds s y ((be32At s 4 - y) / 16)) f₁₆) ∙ x .list));
         aligned-struct = sym (ap (λ y. y % 4) f₈) ∙ x .aligned-struct;
         struct-inside = omega arith;
         strings-inside = omega arith;
@@ -258,51 +258,51 @@ tested-blob s x f =
     }
 
 -- THEOREM 3. Unless the reader answers 21 there is a tree that the slice is a blob of.
-pub valid-blob : (s : List ℕ) → (answerOf s ≡ dt.invalid → ⊥) → Blob s
-unfolding answerOf answerIn
+pub valid-blob : (s : List ℕ) → (blobAnswer s ≡ dt.invalid → ⊥) → Blob s
+unfolding blobAnswer memoryAnswer
 valid-blob s h =
-    let valid : memoryOf s ≡ Invalid → ⊥ = λ e. h (ap (λ m. answerIn s m) e) in
+    let valid : memoryOf s ≡ Invalid → ⊥ = λ e. h (ap (λ m. memoryAnswer s m) e) in
     let x = valid-tested s valid in let a = x .most in let b = x .struct-inside in
-    tested-blob s x (block-formed (structBlock s) (stringsBlock s) (short-part s (wordAt s 8 + wordAt s 36 - wordAt s 8) (wordAt s 8) (omega arith))
+    tested-blob s x (block-formed (structBlock s) (stringsBlock s) (short-part s (be32At s 8 + be32At s 36 - be32At s 8) (be32At s 8) (omega arith))
     (λ e. valid (tested-memory s x ∙ blocks-invalid s (blocksOf s) e)))
 
-abbrev pub isInvalid : dt.Answer → Bool
+abbrev pub isInvalid : dt.Said → Bool
 isInvalid dt.invalid = true
 isInvalid dt.unsupported = false
 isInvalid (dt.pairs ps) = false
 
 -- an answer is invalid, or it is not
-data IsInvalid (a : dt.Answer) : Type 0 where
+data IsInvalid (a : dt.Said) : Type 0 where
   yes : a ≡ dt.invalid → IsInvalid a
   no : (a ≡ dt.invalid → ⊥) → IsInvalid a
 
-judge : (a : dt.Answer) → IsInvalid a
+judge : (a : dt.Said) → IsInvalid a
 judge dt.invalid = yes refl
 judge dt.unsupported = no (λ e. true≢false (sym (ap isInvalid e)))
 judge (dt.pairs ps) = no (λ e. true≢false (sym (ap isInvalid e)))
 
 -- The answer is 21 exactly where every tree that the slice is a blob of says 21; there may be none.
-pub invalid-if : (s : List ℕ) → ((t : Tree) → BlobOf s t → says t ≡ dt.invalid) → answerOf s ≡ dt.invalid
-invalid-if s h = go (judge (answerOf s)) where
-  go : IsInvalid (answerOf s) → answerOf s ≡ dt.invalid
+pub invalid-if : (s : List ℕ) → ((t : Tree) → BlobOf s t → says t ≡ dt.invalid) → blobAnswer s ≡ dt.invalid
+invalid-if s h = go (judge (blobAnswer s)) where
+  go : IsInvalid (blobAnswer s) → blobAnswer s ≡ dt.invalid
   go (yes e) = e
   go (no n) = let b = valid-blob s n in blob-answered s (b .tree) (b .is) ∙ h (b .tree) (b .is)
 
-pub invalid-only : (s : List ℕ) → answerOf s ≡ dt.invalid → (t : Tree) → BlobOf s t → says t ≡ dt.invalid
+pub invalid-only : (s : List ℕ) → blobAnswer s ≡ dt.invalid → (t : Tree) → BlobOf s t → says t ≡ dt.invalid
 invalid-only s e t x = sym (blob-answered s t x) ∙ e
 
 -- Any other answer, 22 or 0 with its pairs, is given exactly where some tree that the slice is a blob of says so.
-pub record Says (s : List ℕ) (a : dt.Answer) : Type 0 where
+pub record Says (s : List ℕ) (a : dt.Said) : Type 0 where
   pub tree : Tree
   pub is : BlobOf s tree
   pub says-so : says tree ≡ a
 
-pub answer-said : (s : List ℕ) (a : dt.Answer) → answerOf s ≡ a → (a ≡ dt.invalid → ⊥) → Says s a
+pub answer-said : (s : List ℕ) (a : dt.Said) → blobAnswer s ≡ a → (a ≡ dt.invalid → ⊥) → Says s a
 answer-said s a e h =
     let b = valid-blob s (λ n. h (sym e ∙ n)) in
     record { tree = b .tree; is = b .is; says-so = sym (blob-answered s (b .tree) (b .is)) ∙ e }
 
-pub said-answer : (s : List ℕ) (a : dt.Answer) → Says s a → answerOf s ≡ a
+pub said-answer : (s : List ℕ) (a : dt.Said) → Says s a → blobAnswer s ≡ a
 said-answer s a x = blob-answered s (x .tree) (x .is) ∙ x .says-so
 
 -- a blob stays one whatever follows it
@@ -332,12 +332,12 @@ blob-moves b r r′ t h e x =
     }
 
 -- THEOREM 4. What follows the first totalsize bytes changes nothing.
-pub prefix-alone : (b r r′ : List ℕ) → 40 ≤ length b → field b 4 ≡ length b → answerOf (b ++ r) ≡ answerOf (b ++ r′)
-prefix-alone b r r′ h e = go (judge (answerOf (b ++ r))) (judge (answerOf (b ++ r′))) where
-  same-tree : (t : Tree) → BlobOf (b ++ r) t → BlobOf (b ++ r′) t → answerOf (b ++ r) ≡ answerOf (b ++ r′)
+pub prefix-alone : (b r r′ : List ℕ) → 40 ≤ length b → field b 4 ≡ length b → blobAnswer (b ++ r) ≡ blobAnswer (b ++ r′)
+prefix-alone b r r′ h e = go (judge (blobAnswer (b ++ r))) (judge (blobAnswer (b ++ r′))) where
+  same-tree : (t : Tree) → BlobOf (b ++ r) t → BlobOf (b ++ r′) t → blobAnswer (b ++ r) ≡ blobAnswer (b ++ r′)
   same-tree t x y = blob-answered (b ++ r) t x ∙ sym (blob-answered (b ++ r′) t y)
 
-  go : IsInvalid (answerOf (b ++ r)) → IsInvalid (answerOf (b ++ r′)) → answerOf (b ++ r) ≡ answerOf (b ++ r′)
+  go : IsInvalid (blobAnswer (b ++ r)) → IsInvalid (blobAnswer (b ++ r′)) → blobAnswer (b ++ r) ≡ blobAnswer (b ++ r′)
   go (no n) k = let x = valid-blob (b ++ r) n in same-tree (x .tree) (x .is) (blob-moves b r r′ (x .tree) h e (x .is))
   go (yes p) (no n) = let x = valid-blob (b ++ r′) n in same-tree (x .tree) (blob-moves b r′ r (x .tree) h e (x .is)) (x .is)
   go (yes p) (yes q) = p ∙ sym q

@@ -8,7 +8,7 @@ use lib.ListN.{length, take, drop, getD}
 use Rattle.lists.proofs.Laws.{cond-all}
 use Rattle.lists.proofs.Every.{Every, every-append}
 use Rattle.fdt_tokens.specs.Devicetree.{Pair, joined}
-use Rattle.fdt_tokens.specs.Bytes.{wordAt}
+use Rattle.fdt_tokens.specs.Bytes.{be32At}
 use Rattle.fdt_tokens.specs.Lex.{Placed, read}
 use Rattle.fdt_nodes.specs.Nodes.{width, pairBytes, advance}
 use Rattle.fdt_nodes.specs.Scan.{hit}
@@ -18,7 +18,7 @@ use Rattle.fdt.specs.declared.Cursor.{Cursor}
 use Rattle.fdt.specs.declared.Memory.{Memory}
 use Rattle.fdt.specs.declared.Memory.the-variants.{Invalid, UnsupportedCellCounts, Pairs}
 use Rattle.fdt.specs.Passes.{cellsAt, pairsAt, regPairs, pairsMet, pairsFrom, leftIn}
-use Rattle.fdt.specs.Blob.{part, insideOf, pairsLeft, memoryOf, answerIn, answerOf}
+use Rattle.fdt.specs.Blob.{part, insideOf, pairsLeft, memoryOf, memoryAnswer, blobAnswer}
 use Rattle.memory_import.specs.Import.{pairsIn}
 use Rattle.lent_words.specs.Words.{FitsWord, Bytes}
 
@@ -27,8 +27,8 @@ abbrev pub PairFits : Pair → Type 0
 PairFits x = FitsWord (x .base) × FitsWord (x .size)
 
 -- a big-endian word of bytes has 32 bits
-word-small : (s : List ℕ) (at : ℕ) → Bytes s → wordAt s at < 2 ^ 32
-unfolding wordAt
+word-small : (s : List ℕ) (at : ℕ) → Bytes s → be32At s at < 2 ^ 32
+unfolding be32At
 word-small s at h =
     cond-all (λ n. n < 2 ^ 32) (leb (at + 4) (length s)) (joined (getD s at 0) (getD s (at + 1) 0) (getD s (at + 2) 0) (getD s (at + 3) 0)) 0
     (omega (arith, h at, h (at + 1), h (at + 2), h (at + 3))) (omega arith)
@@ -38,7 +38,7 @@ unfolding cellsAt
 cells-fit s at n h =
     let a = word-small s at h in
     let b = word-small s (at + 4) h in
-    cond-all FitsWord (eqb n 1) (wordAt s at) (wordAt s at * 4294967296 + wordAt s (at + 4)) (omega arith) (omega arith)
+    cond-all FitsWord (eqb n 1) (be32At s at) (be32At s at * 4294967296 + be32At s (at + 4)) (omega arith) (omega arith)
 
 pairs-at-fit : (s : List ℕ) (n at a z : ℕ) → Bytes s → Every PairFits (pairsAt s n at a z)
 unfolding pairsAt
@@ -93,11 +93,11 @@ left-fit s c h =
     (cond-all (Every PairFits) strings pairs [] (walk-fits _ _ (c .walk) (take-bytes (to - from) (drop from s) (drop-bytes from s h))) tt) tt
 
 -- the pairs of a slice
-pub pairs-fit : (s : List ℕ) → Bytes s → Every PairFits (pairsIn (answerOf s))
-unfolding answerOf answerIn
+pub pairs-fit : (s : List ℕ) → Bytes s → Every PairFits (pairsIn (blobAnswer s))
+unfolding blobAnswer memoryAnswer
 pairs-fit s h = go (memoryOf s)
   where
-    go : (m : Memory) → Every PairFits (pairsIn (answerIn s m))
+    go : (m : Memory) → Every PairFits (pairsIn (memoryAnswer s m))
     go Invalid = tt
     go UnsupportedCellCounts = tt
     go (Pairs c) = left-fit s c h

@@ -9,7 +9,7 @@ use Rattle.fdt.specs.declared.Cursor.{Cursor}
 use Rattle.fdt.specs.declared.Memory.{Memory}
 use Rattle.fdt.specs.declared.Memory.the-variants.{Invalid, Pairs}
 use Rattle.fdt.specs.declared.Memory.the-variants as memory
-use Rattle.fdt.specs.Blob.{memoryOf, pairsLeft, answerOf}
+use Rattle.fdt.specs.Blob.{memoryOf, pairsLeft, blobAnswer}
 use Rattle.stage2_range.specs.declared.Stage2ConfigError.{Stage2ConfigError}
 use Rattle.stage2_range.specs.declared.Stage2ConfigError.the-variants.{InvalidDevicetree, UnsupportedCellCounts}
 use Rattle.stage2_range.specs.declared.Stage2Result.{Stage2Result}
@@ -188,7 +188,7 @@ import-held b blob attributes lent bytes f = go (importAnswer p blob attributes)
         policyAt (unlessRefused (resultNumber (built .answer)) b (withAllowedOf b (built .policy))) ≡ built .policy
     go (Refused e) q = ap policyAt (when-refused (errorNumber e) b (withAllowedOf b p) (error-not-zero e))
     go Accepted q =
-        all-held attributes (pairsIn (answerOf blob)) b f (pairs-fit blob bytes) (allow-start b calls lent)
+        all-held attributes (pairsIn (blobAnswer blob)) b f (pairs-fit blob bytes) (allow-start b calls lent)
         (not-after (reading blob) (answerOfAll p calls) q .1)
 
 pub import-lent : (b blob : List ℕ) (attributes : ℕ) → Lent policySize b → Lent policySize (importCall b blob attributes .state)

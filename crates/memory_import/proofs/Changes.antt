@@ -2,8 +2,8 @@
 use Prim.Native.Nat.{ℕ}
 use mathlib.Core.Path.{_≡_, refl, sym, _∙_, ap}
 use mathlib.Core.List.{List, [], _∷_, _++_}
-use Rattle.fdt_tokens.specs.Devicetree.{Answer, invalid, unsupported, pairs}
-use Rattle.fdt.specs.Blob.{answerOf}
+use Rattle.fdt_tokens.specs.Devicetree.{Said, invalid, unsupported, pairs}
+use Rattle.fdt.specs.Blob.{blobAnswer}
 use Rattle.stage2_range.specs.declared.Stage2ConfigError.{Stage2ConfigError}
 use Rattle.stage2_range.specs.declared.Stage2Result.{Stage2Result}
 use Rattle.stage2_range.specs.declared.Stage2Result.the-variants.{Accepted, Refused}
@@ -85,9 +85,9 @@ all-accepted (c ∷ cs) p h = rw (h .0) (all-accepted cs (build p c .policy) (h 
 -- a slice that the reader refuses stands for no call
 refused-none : (blob : List ℕ) (attributes : ℕ) (e : Stage2ConfigError) → reading blob ≡ Refused e → importCalls blob attributes ≡ []
 unfolding reading importCalls
-refused-none blob attributes e h = go (answerOf blob) h
+refused-none blob attributes e h = go (blobAnswer blob) h
   where
-    go : (a : Answer) → readingOf a ≡ Refused e → allowCalls attributes (pairsIn a) ≡ []
+    go : (a : Said) → readingOf a ≡ Refused e → allowCalls attributes (pairsIn a) ≡ []
     go invalid k = refl
     go unsupported k = refl
     go (pairs ps) k = absurd (not-accepted e (sym k))

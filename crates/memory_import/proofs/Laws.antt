@@ -8,7 +8,7 @@ use Rattle.fdt.specs.declared.Cursor.{Cursor}
 use Rattle.fdt.specs.declared.Memory.{Memory}
 use Rattle.fdt.specs.declared.Memory.the-variants.{Invalid, Pairs}
 use Rattle.fdt.specs.declared.Memory.the-variants as memory
-use Rattle.fdt.specs.Blob.{memoryOf, pairsLeft, answerIn, answerOf}
+use Rattle.fdt.specs.Blob.{memoryOf, pairsLeft, memoryAnswer, blobAnswer}
 use Rattle.stage2_range.specs.declared.Stage2ConfigError.{Stage2ConfigError}
 use Rattle.stage2_range.specs.declared.Stage2ConfigError.the-variants.{InvalidDevicetree, UnsupportedCellCounts}
 use Rattle.stage2_range.specs.declared.Stage2Result.the-variants.{Accepted, Refused}
@@ -29,32 +29,32 @@ allOrNone old p calls = builtBy (answerOfAll p calls) old (buildAll p calls)
 
 -- what the reader says of a slice, and the calls that it stands for, by its memory
 module _ (blob : List ℕ) (attributes : ℕ) {m : Memory} (told : m ≡ memoryOf blob) where
-  pub reading-by : reading blob ≡ readingOf (answerIn blob m)
-  unfolding reading answerOf
-  reading-by = ap (λ x. readingOf (answerIn blob x)) (sym told)
+  pub reading-by : reading blob ≡ readingOf (memoryAnswer blob m)
+  unfolding reading blobAnswer
+  reading-by = ap (λ x. readingOf (memoryAnswer blob x)) (sym told)
 
-  pub calls-by : importCalls blob attributes ≡ allowCalls attributes (pairsIn (answerIn blob m))
-  unfolding importCalls answerOf
-  calls-by = ap (λ x. allowCalls attributes (pairsIn (answerIn blob x))) (sym told)
+  pub calls-by : importCalls blob attributes ≡ allowCalls attributes (pairsIn (memoryAnswer blob m))
+  unfolding importCalls blobAnswer
+  calls-by = ap (λ x. allowCalls attributes (pairsIn (memoryAnswer blob x))) (sym told)
 
   -- by what was read: 21, 22, or the calls of all pairs
   import-by : (p : Policy) → importMemory p blob attributes
-      ≡ builtBy (after (readingOf (answerIn blob m)) (answerOfAll p (allowCalls attributes (pairsIn (answerIn blob m))))) p
-      (buildAll p (allowCalls attributes (pairsIn (answerIn blob m))))
+      ≡ builtBy (after (readingOf (memoryAnswer blob m)) (answerOfAll p (allowCalls attributes (pairsIn (memoryAnswer blob m))))) p
+      (buildAll p (allowCalls attributes (pairsIn (memoryAnswer blob m))))
   unfolding importMemory importAnswer
   import-by p = rw (reading-by, calls-by)
 
   pub import-invalid : (p : Policy) → m ≡ Invalid → refused p InvalidDevicetree ≡ importMemory p blob attributes
-  unfolding answerIn
+  unfolding memoryAnswer
   import-invalid p e = sym (rw e at (import-by p))
 
   pub import-unsupported : (p : Policy) → m ≡ memory.UnsupportedCellCounts → refused p UnsupportedCellCounts ≡ importMemory p blob attributes
-  unfolding answerIn
+  unfolding memoryAnswer
   import-unsupported p e = sym (rw e at (import-by p))
 
   pub import-pairs : (p : Policy) (c : Cursor) → m ≡ Pairs c
       → allOrNone p p (allowCalls attributes (pairsLeft blob c)) ≡ importMemory p blob attributes
-  unfolding answerIn
+  unfolding memoryAnswer
   import-pairs p c e = sym (rw e at (import-by p))
 
 -- The calls of pairs, one by one: `e` says what the next pair is, and the place after it.

@@ -2,8 +2,8 @@
 -- Assumes nothing.
 use Prim.Native.Nat.{ℕ}
 use mathlib.Core.List.{List, [], _∷_, map}
-use Rattle.fdt_tokens.specs.Devicetree.{Pair, Answer, invalid, unsupported, pairs}
-use Rattle.fdt.specs.Blob.{answerOf}
+use Rattle.fdt_tokens.specs.Devicetree.{Pair, Said, invalid, unsupported, pairs}
+use Rattle.fdt.specs.Blob.{blobAnswer}
 use Rattle.stage2_range.specs.declared.Stage2ConfigError.the-variants.{InvalidDevicetree, UnsupportedCellCounts}
 use Rattle.stage2_range.specs.declared.Stage2Result.{Stage2Result}
 use Rattle.stage2_range.specs.declared.Stage2Result.the-variants.{Accepted, Refused}
@@ -18,24 +18,24 @@ abbrev pub allowCalls : ℕ → List Pair → List BuilderCall
 allowCalls attributes ps = map (λ x. allow (x .base) (x .size) attributes) ps
 
 -- 21 and 22, "both before any allow check"
-abbrev pub readingOf : Answer → Stage2Result
+abbrev pub readingOf : Said → Stage2Result
 readingOf invalid = Refused InvalidDevicetree
 readingOf unsupported = Refused UnsupportedCellCounts
 readingOf (pairs ps) = Accepted
 
 -- the pairs of a blob; none where it is refused
-abbrev pub pairsIn : Answer → List Pair
+abbrev pub pairsIn : Said → List Pair
 pairsIn invalid = []
 pairsIn unsupported = []
 pairsIn (pairs ps) = ps
 
 -- what the reader says of a slice
 unfoldable pub reading : List ℕ → Stage2Result
-reading blob = readingOf (answerOf blob)
+reading blob = readingOf (blobAnswer blob)
 
 -- an import taken apart: the calls that it stands for; none where the reader refuses the slice
 unfoldable pub importCalls : List ℕ → ℕ → List BuilderCall
-importCalls blob attributes = allowCalls attributes (pairsIn (answerOf blob))
+importCalls blob attributes = allowCalls attributes (pairsIn (blobAnswer blob))
 
 -- "A pair that allow refuses ends the import with allow's number": the answer of the first call that is refused, each made on the policy
 -- that the last one left

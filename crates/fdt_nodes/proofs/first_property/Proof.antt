@@ -1,13 +1,13 @@
-use Rattle.fdt_nodes.specs.Nodes.{firstOf}
+use Rattle.fdt_nodes.specs.Nodes.{firstKept}
 use Rattle.fdt_nodes.proofs.first_property.Statement.{statement}
 use Rattle.fdt_nodes.proofs.first_property.Tie as tie
 
 returns : tie.Need-returns
-unfolding firstOf
+unfolding firstKept
 returns c = rw (c .if1 .taken)
 
 returns-2 : tie.Need-returns-2
-unfolding firstOf
+unfolding firstKept
 returns-2 c = rw (c .if1 .left)
 
 pub first-property-spec : {M : Type 1} → statement M

@@ -1,4 +1,4 @@
-use Rattle.fdt_tokens.specs.Bytes.{wordAt}
+use Rattle.fdt_tokens.specs.Bytes.{be32At}
 use lib.ListN.{length}
 use Prim.Native.Nat.{_+_}
 use native.Mathlib.Omega.{arith}
@@ -8,14 +8,14 @@ use Rattle.fdt_tokens.proofs.be32.Statement.{statement}
 use Rattle.fdt_tokens.proofs.be32.Tie as tie
 
 returns : tie.Need-returns
-unfolding wordAt
+unfolding be32At
 returns c = simp (lt-leb (c .before .before .args .at + 4) (length (c .before .before .args .s .now)) (omega arith))
 
 sub-if2 : tie.Need-sub-if2
 sub-if2 c = search needs
 
 returns-2 : tie.Need-returns-2
-unfolding wordAt
+unfolding be32At
 returns-2 c = simp (lt-leb (c .before .before .before .args .at + 4) (length (c .before .before .before .args .s .now)) (omega arith))
 
 shared-slice-read-join : tie.Need-shared-slice-read-join
@@ -43,7 +43,7 @@ join-requires : tie.Need-join-requires
 join-requires c κs = search needs
 
 returns-3 : tie.Need-returns-3
-unfolding wordAt
+unfolding be32At
 returns-3 c = rw (le-leb (c .before .before .before .before .before .before .before .before .args .at + 4) (length (c .before .before .before .before .before .before .before .before .args .s .now)) (omega arith)) (c .join .ensures)
 
 pub be32-spec : {M : Type 1} → statement M

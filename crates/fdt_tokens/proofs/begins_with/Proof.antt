@@ -1,5 +1,5 @@
 use Rattle.fdt_tokens.proofs.Laws.{BeginsLeft, begins-later, begins-differ, begins-short, begins-done}
-use Rattle.fdt_tokens.specs.Bytes.{begins}
+use Rattle.fdt_tokens.specs.Bytes.{startsWith}
 use lib.ListN.{length, drop}
 use Prim.Native.Nat.{_-_}
 use mathlib.Core.Path.{refl}
@@ -8,7 +8,7 @@ use Rattle.fdt_tokens.proofs.begins_with.Statement.{statement}
 use Rattle.fdt_tokens.proofs.begins_with.Tie as tie
 
 abbrev Inv-loop : tie.InvT-loop
-Inv-loop s at text i₀ k₀ i k = BeginsLeft text s k i (begins text (drop at s))
+Inv-loop s at text i₀ k₀ i k = BeginsLeft text s k i (startsWith text (drop at s))
 
 abbrev μ-loop : tie.MeasureT-loop
 μ-loop s at text i₀ k₀ i k = length text - k
