@@ -7,6 +7,15 @@ use lib.Dec.{eqb}
 use Rattle.fdt_tokens.specs.Devicetree.{oneOrTwo}
 use Rattle.fdt_nodes.specs.Nodes.{width, pairBytes, raggedReg}
 
+-- the bytes of a number
+pub width-fits : (n : ℕ) → (4 ≤ width n) × (width n ≤ 8)
+unfolding width
+width-fits n = go (eqb n 1)
+  where
+    go : (t : Bool) → (4 ≤ cond t 4 8) × (cond t 4 8 ≤ 8)
+    go true = (omega arith, omega arith)
+    go false = (omega arith, omega arith)
+
 -- eight, twelve or sixteen
 pub sixteen-left : (a z : ℕ) → (pairBytes a z ≡ 8 → ⊥) → (pairBytes a z ≡ 12 → ⊥) → pairBytes a z ≡ 16
 unfolding pairBytes width

@@ -1,6 +1,5 @@
 // The nodes of a flattened devicetree, one token at a time, with a small state.
 ghost use mathlib.Core.Path.{_≡_};
-ghost use Prim.Native.Nat.{_≤_};
 ghost use Rattle.fdt_tokens.specs.Devicetree.{oneOrTwo};
 ghost use Rattle.fdt_nodes.specs.Nodes.{firstKept, absent, firstNamed, cellAt, badNodes, isMemory, width, pairBytes, raggedReg, beginNode, childEnd, endNode, rootProperty, childProperty, flag, property, ended, advance};
 ghost use Rattle.fdt_nodes.specs.Scan.{started, judged, hasPair, hit};
@@ -110,7 +109,7 @@ fn is_memory(kind: First) -> bool
 
 // The bytes of one cell, or of two.
 pub fn cells_width(n: u32) -> u32
-    ensures { λ r. ⌜ (r ≡ width n) × ((4 ≤ r) × (r ≤ 8)) ⌝ }
+    ensures { λ r. ⌜ r ≡ width n ⌝ }
 {
     if n == 1 {
         return 4;
@@ -119,7 +118,7 @@ pub fn cells_width(n: u32) -> u32
 }
 
 pub fn bytes_of_pair(address: u32, size: u32) -> u32
-    ensures { λ r. ⌜ (r ≡ pairBytes address size) × ((8 ≤ r) × (r ≤ 16)) ⌝ }
+    ensures { λ r. ⌜ r ≡ pairBytes address size ⌝ }
 {
     cells_width(address) + cells_width(size)
 }

@@ -7,5 +7,5 @@ pub mod Answer
 pub mod Shape
 pub mod Header
 pub mod Theorems
-pub mod Worked
+pub mod Import
 pub mod Dtc

@@ -2,12 +2,12 @@
 use Prim.Native.Nat.{ℕ, _+_, _-_, _/_, _%_, _≤_}
 use mathlib.Core.Path.{_≡_, refl, sym, _∙_, ap, subst}
 use mathlib.Core.Bool.{Bool, true, false, cond, true≢false}
-use mathlib.Core.List.{List, _++_}
+use mathlib.Core.List.{List, [], _++_, append-nil}
 use native.Mathlib.Omega.{arith}
 use lib.Dec.{eqb, ltb}
 use lib.ListN.{length, take, drop, length-append, length-take, take-append-drop}
-use lib.Seq.{length-take-le, take-append-seam}
-use borrow.Author.Tests.{eq-eqb, eqb-true, le-ltb, ltb-false}
+use lib.Seq.{length-take-le, take-append-seam, take-all}
+use borrow.Author.Tests.{eq-eqb, eqb-true, le-ltb, ltb-false, ltb-true}
 use Rattle.fdt_tokens.specs.Devicetree as dt
 use Rattle.fdt_tokens.specs.Devicetree.{Tree, Tokens, tokensOf, field, span, BlobOf, says}
 use Rattle.fdt_tokens.specs.Bytes.{be32At}
@@ -24,7 +24,7 @@ use Rattle.fdt_tokens.specs.declared.Lexer.the-variants.{Token}
 use Rattle.fdt.specs.declared.Blocks.{Blocks}
 use Rattle.fdt_tree.proofs.Answer.{answered, block-answered}
 use Rattle.fdt_tree.proofs.Shape.{Formed, block-formed}
-use Rattle.fdt_tree.proofs.Header.{span-is, field-is, ends-listed, listed-ends}
+use Rattle.fdt_tree.proofs.Header.{span-is, word-field, field-is, ends-listed, listed-ends}
 
 -- what the reader tests of a slice before it reads the structure block
 record Tested (s : List ℕ) : Type 0 where
@@ -200,7 +200,7 @@ tested-answer s x = ap (λ m. memoryAnswer s m) (tested-memory s x) ∙ blocks-a
 short-part : (s : List ℕ) (n at : ℕ) → n ≤ 65536 → length (take n (drop at s)) ≤ 65536
 short-part s n at h = omega (arith, length-take n (drop at s))
 
--- THEOREM 2. Of a slice that is a blob of a tree the reader answers what the tree says, all its pairs in order.
+-- Of a slice that is a blob of a tree the reader answers what the tree says, all its pairs in order.
 pub blob-answered : (s : List ℕ) (t : Tree) → BlobOf s t → blobAnswer s ≡ says t
 blob-answered s t x =
     let y = blob-tested s t x in let b = x .blob in let r = x .rest in let l = x .least in let m = x .most in let i = x .struct-inside in
@@ -257,7 +257,7 @@ tested-blob s x f =
       };
     }
 
--- THEOREM 3. Unless the reader answers 21 there is a tree that the slice is a blob of.
+-- Unless the reader answers 21 there is a tree that the slice is a blob of.
 pub valid-blob : (s : List ℕ) → (blobAnswer s ≡ dt.invalid → ⊥) → Blob s
 unfolding blobAnswer memoryAnswer
 valid-blob s h =
@@ -331,8 +331,8 @@ blob-moves b r r′ t h e x =
       struct = x .struct;
     }
 
--- THEOREM 4. What follows the first totalsize bytes changes nothing.
-pub prefix-alone : (b r r′ : List ℕ) → 40 ≤ length b → field b 4 ≡ length b → blobAnswer (b ++ r) ≡ blobAnswer (b ++ r′)
+-- what follows the first totalsize bytes changes nothing
+prefix-alone : (b r r′ : List ℕ) → 40 ≤ length b → field b 4 ≡ length b → blobAnswer (b ++ r) ≡ blobAnswer (b ++ r′)
 prefix-alone b r r′ h e = go (judge (blobAnswer (b ++ r))) (judge (blobAnswer (b ++ r′))) where
   same-tree : (t : Tree) → BlobOf (b ++ r) t → BlobOf (b ++ r′) t → blobAnswer (b ++ r) ≡ blobAnswer (b ++ r′)
   same-tree t x y = blob-answered (b ++ r) t x ∙ sym (blob-answered (b ++ r′) t y)
@@ -341,3 +341,37 @@ prefix-alone b r r′ h e = go (judge (blobAnswer (b ++ r))) (judge (blobAnswer 
   go (no n) k = let x = valid-blob (b ++ r) n in same-tree (x .tree) (x .is) (blob-moves b r r′ (x .tree) h e (x .is))
   go (yes p) (no n) = let x = valid-blob (b ++ r′) n in same-tree (x .tree) (blob-moves b r′ r (x .tree) h e (x .is)) (x .is)
   go (yes p) (yes q) = p ∙ sym q
+
+-- a slice that has no blob at its front is invalid
+not-blob : (s : List ℕ) → ((t : Tree) → BlobOf s t → ⊥) → blobAnswer s ≡ dt.invalid
+not-blob s h = invalid-if s (λ t x. absurd (h t x))
+
+-- a blob's totalsize is a field of the slice
+front-size : (s : List ℕ) (t : Tree) (x : BlobOf s t) → field s 4 ≡ length (x .blob)
+front-size s t x =
+    let l = x .least in
+    let n : length s ≡ length (x .blob) + length (x .rest) = ap length (x .front) ∙ length-append (x .blob) (x .rest) in
+    sym (word-field s 4 (omega arith)) ∙ (field-is s (x .blob) (x .rest) 4 (x .front) (omega arith) ∙ x .totalsize)
+
+-- The answer depends on the first totalsize bytes alone.
+pub first-bytes : (s : List ℕ) → blobAnswer s ≡ blobAnswer (take (field s 4) s)
+first-bytes s = go (ltb (length s) (field s 4)) (ltb (field s 4) 40) refl refl
+  where
+    n : ℕ
+    n = field s 4
+
+    go : (t u : Bool) → ltb (length s) n ≡ t → ltb n 40 ≡ u → blobAnswer s ≡ blobAnswer (take n s)
+    go true u e f = ap blobAnswer (sym (take-all n s (let h = ltb-true (length s) n e in omega arith)))
+    go false true e f =
+        let h = ltb-true n 40 f in
+        not-blob s (λ t x. let l = x .least in omega (arith, front-size s t x))
+        ∙ sym (not-blob (take n s) (λ t x. let l = x .least in omega (arith, ap length (x .front), length-append (x .blob) (x .rest), length-take n s)))
+    go false false e f =
+        let b = take n s in
+        let r = drop n s in
+        let k = ltb-false n 40 f in
+        let j = ltb-false (length s) n e in
+        let whole : s ≡ b ++ r = sym (take-append-drop n s) in
+        let long : length b ≡ n = length-take-le n s j in
+        let size = sym (field-is s b r 4 whole (omega arith)) ∙ (word-field s 4 (omega arith) ∙ sym long) in
+        ap blobAnswer whole ∙ (prefix-alone b r [] (omega arith) size ∙ ap blobAnswer (append-nil b))

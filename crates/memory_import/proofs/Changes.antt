@@ -14,7 +14,7 @@ use Rattle.stage2.specs.Policy.{freshPolicy, builtBy}
 use Rattle.stage2.specs.Builds.{BuilderCall, build, buildAll, WellFormed}
 use Rattle.stage2.proofs.Laws.{built-answer, built-refused, build-refused}
 use Rattle.stage2.proofs.WellFormed.{build-keeps, build-all-keeps, fresh-well-formed}
-use Rattle.memory_import.specs.Import.{allowCalls, readingOf, pairsIn, reading, importCalls, answerOfAll, importAnswer, importMemory}
+use Rattle.memory_import.specs.Import.{allowCalls, readingOf, pairsIn, reading, importCalls, answerOfAll, importAnswer, importMemory, importBy}
 use Rattle.memory_import.proofs.Laws.{refused}
 use Rattle.memory_import.specs.Changes.{PolicyCall, builder, import-memory, change, changeAll, takenApart, readFirst}
 
@@ -117,6 +117,11 @@ apart-accepted p (import-memory blob attributes) h = go (reading blob) refl
         × (builtBy (after r (answerOfAll p calls)) p (buildAll p calls) .policy ≡ buildAll p calls)
     go Accepted e = rw (all-accepted calls p h) (refl, refl)
     go (Refused x) e = (refl, rw (refused-none blob attributes x e))
+
+-- an import goes by what its slice says
+pub import-said : (p : Policy) (blob : List ℕ) (attributes : ℕ) → importMemory p blob attributes ≡ importBy (blobAnswer blob) p attributes
+unfolding importMemory importAnswer reading importCalls
+import-said p blob attributes = refl
 
 -- An import, in sentences: refused by the reader, that refusal and the policy given;
 pub import-unread : (p : Policy) (blob : List ℕ) (attributes : ℕ) (e : Stage2ConfigError) → reading blob ≡ Refused e

@@ -50,3 +50,9 @@ importAnswer p blob attributes = after (reading blob) (answerOfAll p (importCall
 -- an import: "An accepted import behaves as its calls made singly"; refused, "the policy is as before the import"
 unfoldable pub importMemory : Policy → List ℕ → ℕ → Built
 importMemory p blob attributes = builtBy (importAnswer p blob attributes) p (buildAll p (importCalls blob attributes))
+
+-- the same by what is said of memory, by a slice or by a tree: 21, 22, or the calls of these pairs, all of them or none
+abbrev pub importBy : Said → Policy → ℕ → Built
+importBy said p attributes =
+    let calls = allowCalls attributes (pairsIn said) in
+    builtBy (after (readingOf said) (answerOfAll p calls)) p (buildAll p calls)

@@ -12,3 +12,4 @@ pub mod OrderIndependence
 pub mod Needed
 pub mod Computed
 pub mod Instance
+pub mod Imports

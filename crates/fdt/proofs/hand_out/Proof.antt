@@ -26,7 +26,7 @@ cells-requires-2 c κs = search needs
 
 returns : tie.Need-returns
 unfolding handed
-returns c = rw (c .before .before .cells .ensures, c .cells2 .ensures, ← c .before .cells-width .ensures .0, ← c .before .before .before .before .bytes-of-pair .ensures .0, c .before .before .before .wrapping-add-u32 .ensures)
+returns c = rw (c .before .before .cells .ensures, c .cells2 .ensures, ← c .before .cells-width .ensures, ← c .before .before .before .before .bytes-of-pair .ensures, c .before .before .before .wrapping-add-u32 .ensures)
 
 pub hand-out-spec : {M : Type 1} → statement M
 hand-out-spec =

@@ -12,13 +12,13 @@ hand-out-requires : tie.Need-hand-out-requires
 hand-out-requires c κs = search needs
 
 returns : tie.Need-returns
-returns c = out-of-reg _ _ _ _ _ (c .before .before .before .before .bytes-of-pair .ensures .0) (omega arith) (c .hand-out .ensures)
+returns c = out-of-reg _ _ _ _ _ (c .before .before .before .before .bytes-of-pair .ensures) (omega arith) (c .hand-out .ensures)
 
 next-reg-requires : tie.Need-next-reg-requires
 next-reg-requires c κs = search needs
 
 returns-2 : tie.Need-returns-2
-returns-2 c = out-of-none _ _ _ _ (omega (arith, c .before .before .before .before .before .before .bytes-of-pair .ensures .0)) (c .before .before .next-reg .ensures) (not-true (c .before .before .next-reg .result .found) (c .if2 .taken))
+returns-2 c = out-of-none _ _ _ _ (omega (arith, c .before .before .before .before .before .before .bytes-of-pair .ensures)) (c .before .before .next-reg .ensures) (not-true (c .before .before .next-reg .result .found) (c .if2 .taken))
 
 bytes-of-pair-requires-2 : tie.Need-bytes-of-pair-requires-2
 bytes-of-pair-requires-2 c κs = search needs
@@ -30,7 +30,7 @@ hand-out-requires-2 : tie.Need-hand-out-requires-2
 hand-out-requires-2 c κs = search needs
 
 returns-3 : tie.Need-returns-3
-returns-3 c = out-of-next _ _ _ _ _ _ _ (omega (arith, c .before .before .before .before .before .before .before .before .before .before .bytes-of-pair .ensures .0)) (c .before .before .before .before .before .before .next-reg .ensures) (not-false (c .before .before .before .before .before .before .next-reg .result .found) (c .before .before .before .before .if2 .left)) (c .before .before .bytes-of-pair2 .ensures .0) (c .before .after-first .ensures) (c .hand-out2 .ensures)
+returns-3 c = out-of-next _ _ _ _ _ _ _ (omega (arith, c .before .before .before .before .before .before .before .before .before .before .bytes-of-pair .ensures)) (c .before .before .before .before .before .before .next-reg .ensures) (not-false (c .before .before .before .before .before .before .next-reg .result .found) (c .before .before .before .before .if2 .left)) (c .before .before .bytes-of-pair2 .ensures) (c .before .after-first .ensures) (c .hand-out2 .ensures)
 
 pub next-in-spec : {M : Type 1} → statement M
 next-in-spec =

@@ -20,11 +20,11 @@ bytes-of-pair-requires c κs = search needs
 
 returns-3 : tie.Need-returns-3
 unfolding hasPair
-returns-3 c = rw (← c .before .before .before .before .is-memory .ensures, ← c .before .before .bytes-of-pair .ensures .0, eq-eqb _ _ (c .before .before .before .before .before .if1 .left), not-false (c .before .before .before .before .is-memory .result) (c .before .before .before .if2 .left), lt-ltb _ _ (c .if3 .taken))
+returns-3 c = rw (← c .before .before .before .before .is-memory .ensures, ← c .before .before .bytes-of-pair .ensures, eq-eqb _ _ (c .before .before .before .before .before .if1 .left), not-false (c .before .before .before .before .is-memory .result) (c .before .before .before .if2 .left), lt-ltb _ _ (c .if3 .taken))
 
 returns-4 : tie.Need-returns-4
 unfolding hasPair
-returns-4 c = rw (← c .before .before .before .before .is-memory .ensures, ← c .before .before .bytes-of-pair .ensures .0, eq-eqb _ _ (c .before .before .before .before .before .if1 .left), not-false (c .before .before .before .before .is-memory .result) (c .before .before .before .if2 .left), le-ltb _ _ (c .if3 .left))
+returns-4 c = rw (← c .before .before .before .before .is-memory .ensures, ← c .before .before .bytes-of-pair .ensures, eq-eqb _ _ (c .before .before .before .before .before .if1 .left), not-false (c .before .before .before .before .is-memory .result) (c .before .before .before .if2 .left), le-ltb _ _ (c .if3 .left))
 
 pub has-pair-spec : {M : Type 1} → statement M
 has-pair-spec =

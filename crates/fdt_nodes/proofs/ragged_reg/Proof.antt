@@ -24,14 +24,14 @@ bytes-of-pair-requires : tie.Need-bytes-of-pair-requires
 bytes-of-pair-requires c κs = search needs
 
 returns-3 : tie.Need-returns-3
-returns-3 c = ragged-by _ _ _ _ (sym (c .before .before .before .before .before .is-count .ensures) ∙ not-false (c .before .before .before .before .before .is-count .result) (c .before .before .before .before .if1 .left)) (sym (c .before .before .before .is-count2 .ensures) ∙ not-false (c .before .before .before .is-count2 .result) (c .before .before .if2 .left)) (sym (c .before .bytes-of-pair .ensures .0) ∙ c .if3 .taken)
+returns-3 c = ragged-by _ _ _ _ (sym (c .before .before .before .before .before .is-count .ensures) ∙ not-false (c .before .before .before .before .before .is-count .result) (c .before .before .before .before .if1 .left)) (sym (c .before .before .before .is-count2 .ensures) ∙ not-false (c .before .before .before .is-count2 .result) (c .before .before .if2 .left)) (sym (c .before .bytes-of-pair .ensures) ∙ c .if3 .taken)
 
 returns-4 : tie.Need-returns-4
-returns-4 c = ragged-by _ _ _ _ (sym (c .before .before .before .before .before .before .is-count .ensures) ∙ not-false (c .before .before .before .before .before .before .is-count .result) (c .before .before .before .before .before .if1 .left)) (sym (c .before .before .before .before .is-count2 .ensures) ∙ not-false (c .before .before .before .before .is-count2 .result) (c .before .before .before .if2 .left)) (sym (c .before .before .bytes-of-pair .ensures .0) ∙ c .if4 .taken)
+returns-4 c = ragged-by _ _ _ _ (sym (c .before .before .before .before .before .before .is-count .ensures) ∙ not-false (c .before .before .before .before .before .before .is-count .result) (c .before .before .before .before .before .if1 .left)) (sym (c .before .before .before .before .is-count2 .ensures) ∙ not-false (c .before .before .before .before .is-count2 .result) (c .before .before .before .if2 .left)) (sym (c .before .before .bytes-of-pair .ensures) ∙ c .if4 .taken)
 
 returns-5 : tie.Need-returns-5
 returns-5 c =
-    let e = c .before .before .bytes-of-pair .ensures .0 in
+    let e = c .before .before .bytes-of-pair .ensures in
     ragged-by _ _ _ _ (sym (c .before .before .before .before .before .before .is-count .ensures) ∙ not-false (c .before .before .before .before .before .before .is-count .result) (c .before .before .before .before .before .if1 .left)) (sym (c .before .before .before .before .is-count2 .ensures) ∙ not-false (c .before .before .before .before .is-count2 .result) (c .before .before .before .if2 .left)) (sixteen-left _ _ (λ h. c .before .if3 .left (e ∙ h)) (λ h. c .if4 .left (e ∙ h)))
 
 pub ragged-reg-spec : {M : Type 1} → statement M
