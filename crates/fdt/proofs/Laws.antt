@@ -18,7 +18,7 @@ use Rattle.fdt_tokens.specs.declared.Event.the-variants.{Nothing, Begin, EndNod
 use Rattle.fdt_tokens.proofs.Laws.{impossible, drop-end, drop-four}
 use Rattle.fdt_tokens.proofs.Lexing.{put-lexer}
 use Rattle.fdt_nodes.specs.Nodes.{advance, pairBytes}
-use Rattle.fdt_nodes.specs.Scan.{judged, hit}
+use Rattle.fdt_nodes.specs.Scan.{judged, atPair}
 use Rattle.fdt_nodes.specs.declared.Verdict.the-variants.{Invalid}
 use Rattle.fdt_nodes.proofs.Laws.{whole}
 use Rattle.fdt.specs.Passes.{lexAt, folded, pairOf, pairsAt, regPairs, pairsMet, pairsFrom, leftIn, handed}
@@ -42,8 +42,8 @@ module _ (B S : List ℕ) where
 
   put-pairs : (e : Event) (i : ℕ) (n : Nodes) (r : Reading)
       → pairsMet B S n (put e i r .tokens)
-      ≡ cond (hit e (advance B S i n e)) (regPairs B (advance B S i n e) ++ pairsMet B S (advance B S i n e) (r .tokens)) (pairsMet B S (advance B S i n e) (r .tokens))
-  unfolding put pairsMet advance hit
+      ≡ cond (atPair e (advance B S i n e)) (regPairs B (advance B S i n e) ++ pairsMet B S (advance B S i n e) (r .tokens)) (pairsMet B S (advance B S i n e) (r .tokens))
+  unfolding put pairsMet advance atPair
   put-pairs Nothing i n r = refl
   put-pairs Begin i n r = refl
   put-pairs EndNode i n r = refl
@@ -77,8 +77,8 @@ no-token B S i n EndNode h = impossible (sym h)
 no-token B S i n (Prop w o) h = impossible (sym h)
 no-token B S i n End h = impossible (sym h)
 
-no-hit : (e : Event) (n : Nodes) → isToken e ≡ false → hit e n ≡ false
-unfolding isToken hit
+no-hit : (e : Event) (n : Nodes) → isToken e ≡ false → atPair e n ≡ false
+unfolding isToken atPair
 no-hit Nothing n h = refl
 no-hit Begin n h = impossible (sym h)
 no-hit EndNode n h = impossible (sym h)
@@ -148,17 +148,17 @@ module _ {B S : List ℕ} {i : ℕ} {y : Lexer} {n : Nodes} {v : List Pair} (inv
   later l m = pairsFrom B S (i + 4) (l .lexer) m (drop (i + 4) B)
 
   pairs-four : (l : Lexed) → l ≡ lexAt y B i → (m : Nodes) → m ≡ advance B S (i + 4) n (l .event)
-      → cond (hit (l .event) m) (regPairs B m ++ later l m) (later l m) ≡ v
+      → cond (atPair (l .event) m) (regPairs B m ++ later l m) (later l m) ≡ v
   unfolding pairsFrom
   pairs-four l e m f = rw (f, e)
       (sym (put-pairs B S _ _ _ _) ∙ (ap (λ r. pairsMet B S n (r .tokens)) (sym (read-at B y i h)) ∙ inv .left))
 
   -- a memory child that has a pair is ended
-  pub pairs-hit : (l : Lexed) → l ≡ lexAt y B i → (m : Nodes) → m ≡ advance B S (i + 4) n (l .event) → hit (l .event) m ≡ true
+  pub pairs-hit : (l : Lexed) → l ≡ lexAt y B i → (m : Nodes) → m ≡ advance B S (i + 4) n (l .event) → atPair (l .event) m ≡ true
       → v ≡ regPairs B m ++ later l m
   pairs-hit l e m f k = sym (rw k at (pairs-four l e m f))
 
-  pub pairs-miss : (l : Lexed) → l ≡ lexAt y B i → (m : Nodes) → m ≡ advance B S (i + 4) n (l .event) → hit (l .event) m ≡ false
+  pub pairs-miss : (l : Lexed) → l ≡ lexAt y B i → (m : Nodes) → m ≡ advance B S (i + 4) n (l .event) → atPair (l .event) m ≡ false
       → PairsLeft B S (i + 4) (l .lexer) m v
   pairs-miss l e m f k = record { within = h; left = rw k at (pairs-four l e m f) }
 
@@ -167,7 +167,7 @@ module _ {B S : List ℕ} {i : ℕ} {y : Lexer} {n : Nodes} {v : List Pair} (inv
   pairs-skip l e k = pairs-miss l e n (sym (no-token B S (i + 4) n (l .event) k)) (no-hit (l .event) n k)
 
 -- the bytes of a pair, and the pairs of the block's rest, by the state of a walk
-abbrev pub bytesIn : Scan → ℕ
+abbrev bytesIn : Scan → ℕ
 bytesIn s = pairBytes (s .nodes .address .value) (s .nodes .size .value)
 
 abbrev restOf : List ℕ → List ℕ → Walk → List Pair
@@ -182,7 +182,7 @@ unfolding leftIn pairsAt
 walk-none B S w h = rw (whole (w .scan .nodes .address .value) (w .scan .nodes .size .value) (w .left) .none h)
 
 -- what a step hands out of a walk: the next pair and the walk after it, or nothing
-abbrev pub HandsOut : List ℕ → List ℕ → Walk → Handed → Type 0
+abbrev HandsOut : List ℕ → List ℕ → Walk → Handed → Type 0
 HandsOut B S w t = leftIn B S w ≡ cond (t .found) (pairOf (t .base) (t .size) ∷ leftIn B S (t .walk)) []
 
 -- what is handed out at a place
@@ -207,7 +207,7 @@ out-of-reg B S w t b eb h e =
     ∙ handed-out B S w (w .place) (w .left - bytesIn (w .scan)) t (e ∙ ap (λ x. handed B w (w .place) (w .left - x)) eb)
 
 -- what the second pass finds after a walk's reg
-abbrev pub Finds : List ℕ → List ℕ → Walk → Found → Type 0
+abbrev Finds : List ℕ → List ℕ → Walk → Found → Type 0
 Finds B S w r =
     restOf B S w
     ≡ cond (r .found) (regPairs B (r .scan .nodes) ++ pairsFrom B S (r .at) (r .scan .lexer) (r .scan .nodes) (drop (r .at) B)) []
@@ -237,10 +237,10 @@ inside-is n from to h = go (ltb 65536 to) (ltb n to) (ltb to from) refl refl ref
   go false false true e f g k = impossible k
 
 module _ (s : List ℕ) (c : Cursor) where
-  abbrev pub InsideBlock : Bool → Type 0
+  abbrev InsideBlock : Bool → Type 0
   InsideBlock t = insideOf (length s) (c .blocks .block .from) (c .blocks .block .to) ≡ t
 
-  abbrev pub InsideStrings : Bool → Type 0
+  abbrev InsideStrings : Bool → Type 0
   InsideStrings t = insideOf (length s) (c .blocks .strings .from) (c .blocks .strings .to) ≡ t
 
   pub left-outside : InsideBlock false → pairsLeft s c ≡ []

@@ -17,15 +17,19 @@ use Rattle.fdt.specs.declared.Cursor.{Cursor}
 use Rattle.fdt.specs.declared.Memory.{Memory}
 use Rattle.fdt.specs.declared.Memory.the-variants.{Invalid, UnsupportedCellCounts, Pairs}
 
+-- the second pass at its start
 abbrev pub firstWalk : Walk
 firstWalk = record { at = 0; scan = started; place = 0; left = 0 }
 
+-- blocks by their places
 abbrev pub blocksAt : ℕ → ℕ → ℕ → ℕ → Blocks
 blocksAt a b c d = record { block = record { from = a; to = b }; strings = record { from = c; to = d } }
 
+-- the place before the first pair of some blocks
 abbrev pub cursorAt : Blocks → Cursor
 cursorAt b = record { blocks = b; walk = firstWalk }
 
+-- an entry of sixteen zero bytes
 unfoldable pub zeroEntry : List ℕ → ℕ → Bool
 zeroEntry s at =
     cond (eqb (be32At s at) 0)
@@ -37,6 +41,7 @@ unfoldable pub listEnds : List ℕ → ℕ → ℕ → Bool
 listEnds s at zero = false
 listEnds s at (suc n) = cond (zeroEntry s at) true (listEnds s (at + 16) n)
 
+-- magic, versions, alignment, the reservation list's end
 unfoldable pub headerOk : List ℕ → ℕ → Bool
 headerOk s total =
     cond (eqb (be32At s 0) 0xD00DFEED)
@@ -66,6 +71,7 @@ memoryBy verdict.UnsupportedCellCounts b = UnsupportedCellCounts
 unfoldable pub blocksMemory : List ℕ → Blocks → Memory
 blocksMemory s b = memoryBy (judgedBlock (blockOf s b) (stringsOf s b)) b
 
+-- the header, then blocks inside totalsize, then what they say
 unfoldable pub blobMemory : List ℕ → ℕ → Memory
 blobMemory s total =
     cond (headerOk s total)
@@ -74,6 +80,7 @@ blobMemory s total =
     (blocksMemory s (blocksAt (be32At s 8) (be32At s 8 + be32At s 36) (be32At s 12) (be32At s 12 + be32At s 32)))))
     Invalid
 
+-- the lengths, then the blob
 unfoldable pub memoryOf : List ℕ → Memory
 memoryOf s =
     cond (ltb (length s) 40) Invalid

@@ -11,7 +11,7 @@ use Rattle.fdt_tokens.specs.declared.Lexed.{Lexed}
 use Rattle.fdt_tokens.specs.declared.Lexer.{Lexer}
 use Rattle.fdt_tokens.specs.declared.Lexer.the-variants.{Token}
 use Rattle.fdt_nodes.specs.Nodes.{width, pairBytes, advance}
-use Rattle.fdt_nodes.specs.Scan.{started, judged, hit}
+use Rattle.fdt_nodes.specs.Scan.{started, judged, atPair}
 use Rattle.fdt_nodes.specs.declared.Nodes.{Nodes}
 use Rattle.fdt_nodes.specs.declared.Verdict.{Verdict}
 use Rattle.fdt.specs.declared.Walk.{Walk}
@@ -35,6 +35,7 @@ judgedBlock block strings =
 unfoldable pub cellsAt : List ℕ → ℕ → ℕ → ℕ
 cellsAt s at n = cond (eqb n 1) (be32At s at) (be32At s at * 4294967296 + be32At s (at + 4))
 
+-- a pair, and the one at a place
 abbrev pub pairOf : ℕ → ℕ → Pair
 pairOf b z = record { base = b; size = z }
 
@@ -57,7 +58,7 @@ regPairs s n =
 unfoldable pub pairsMet : List ℕ → List ℕ → Nodes → List Placed → List Pair
 pairsMet block strings n [] = []
 pairsMet block strings n (e ∷ es) =
-    cond (hit (e .event) (advance block strings (e .place) n (e .event)))
+    cond (atPair (e .event) (advance block strings (e .place) n (e .event)))
     (regPairs block (advance block strings (e .place) n (e .event)) ++ pairsMet block strings (advance block strings (e .place) n (e .event)) es)
     (pairsMet block strings (advance block strings (e .place) n (e .event)) es)
 

@@ -13,6 +13,7 @@ use Rattle.fdt_nodes.specs.declared.Scan.{Scan}
 use Rattle.fdt_nodes.specs.declared.Verdict.{Verdict}
 use Rattle.fdt_nodes.specs.declared.Verdict.the-variants.{Accepted, Invalid, UnsupportedCellCounts}
 
+-- before the first token: the counts have their defaults
 unfoldable pub started : Scan
 started =
     record {
@@ -47,9 +48,10 @@ hasPair n =
     (cond (isMemory (n .kind)) (cond (ltb (n .reg .length) (pairBytes (n .address .value) (n .size .value))) false true) false)
     false
 
-unfoldable pub hit : Event → Nodes → Bool
-hit Nothing n = false
-hit Begin n = false
-hit EndNode n = hasPair n
-hit (Prop w o) n = false
-hit End n = false
+-- a token ends such a child
+unfoldable pub atPair : Event → Nodes → Bool
+atPair Nothing n = false
+atPair Begin n = false
+atPair EndNode n = hasPair n
+atPair (Prop w o) n = false
+atPair End n = false

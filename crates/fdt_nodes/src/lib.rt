@@ -2,7 +2,7 @@
 ghost use mathlib.Core.Path.{_≡_};
 ghost use Rattle.fdt_tokens.specs.Devicetree.{oneOrTwo};
 ghost use Rattle.fdt_nodes.specs.Nodes.{firstKept, absent, firstNamed, cellAt, badNodes, isMemory, width, pairBytes, raggedReg, beginNode, childEnd, endNode, rootProperty, childProperty, flag, property, ended, advance};
-ghost use Rattle.fdt_nodes.specs.Scan.{started, judged, hasPair, hit};
+ghost use Rattle.fdt_nodes.specs.Scan.{started, judged, hasPair, atPair};
 use fdt_tokens::Event;
 use fdt_tokens::Lexer;
 use fdt_tokens::be32;
@@ -379,7 +379,7 @@ fn has_pair(nodes: Nodes) -> bool
 }
 
 pub fn at_pair(event: Event, nodes: Nodes) -> bool
-    ensures { λ r. ⌜ r ≡ hit event nodes ⌝ }
+    ensures { λ r. ⌜ r ≡ atPair event nodes ⌝ }
 {
     match event {
         Event::Nothing => false,

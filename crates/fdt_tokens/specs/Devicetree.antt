@@ -11,7 +11,7 @@ use lib.ListN.{length, take, drop, replicate}
 abbrev pub joined : ℕ → ℕ → ℕ → ℕ → ℕ
 joined a b c d = a * 16777216 + b * 65536 + c * 256 + d
 
--- bytes of any length as a number, the highest first
+-- bytes of any length as a number, the highest first, after those that came to `n`
 unfoldable pub numberFrom : ℕ → List ℕ → ℕ
 numberFrom n [] = n
 numberFrom n (b ∷ bs) = numberFrom (n * 256 + b) bs
@@ -47,7 +47,7 @@ pub data Token : Type 0 where
   prop : Property → Token
 
 -- The bytes of a structure block and the tokens that they are: FDT_END is 9, the last token, and ends the block; FDT_NOP is 4 and stands
--- anywhere; FDT_BEGIN_NODE is 1, then the node's name with its zero byte, filled up; FDT_END_NODE is 2; FDT_PROP is 3, then the value's
+-- wherever a token may; FDT_BEGIN_NODE is 1, then the node's name with its zero byte, filled up; FDT_END_NODE is 2; FDT_PROP is 3, then the value's
 -- length, the offset of the name, and the value, filled up.
 pub data Tokens (strings : List ℕ) : List ℕ → List Token → Type 0 where
   last : {a b c d : ℕ} → joined a b c d ≡ 9 → Tokens strings (a ∷ b ∷ c ∷ d ∷ []) []
@@ -67,7 +67,7 @@ pub data Forest : Type 0 where
 -- a node is FDT_BEGIN_NODE, its properties, its children, FDT_END_NODE: so properties stand before the first child
 unfoldable pub tokensOf : Forest → List Token
 tokensOf none = []
-tokensOf (node ps kids rest) = begin ∷ (map prop ps ++ (tokensOf kids ++ (end ∷ tokensOf rest)))
+tokensOf (node ps children rest) = begin ∷ (map prop ps ++ (tokensOf children ++ (end ∷ tokensOf rest)))
 
 -- a tree is its root
 pub record Tree : Type 0 where
@@ -157,7 +157,7 @@ pairsOf (suc n) a z v =
 -- none": it has an empty one.
 unfoldable pub regsOf : Forest → List (List ℕ)
 regsOf none = []
-regsOf (node ps kids rest) =
+regsOf (node ps children rest) =
     cond (same (propertyValue deviceType [] ps) memoryType) (propertyValue regName [] ps ∷ regsOf rest) (regsOf rest)
 
 -- the pairs of some regs
@@ -174,7 +174,7 @@ ragged a z (v ∷ vs) = cond (eqb (length v % (4 * (a + z))) 0) (ragged a z vs) 
 unfoldable pub oneOrTwo : ℕ → Bool
 oneOrTwo n = cond (eqb n 1) true (eqb n 2)
 
--- what a tree answers: it is invalid (21), its cell counts are unsupported (22), or its pairs
+-- what a tree says: it is invalid (21), its cell counts are unsupported (22), or its pairs
 pub data Said : Type 0 where
   invalid : Said
   unsupported : Said

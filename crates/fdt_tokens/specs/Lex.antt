@@ -42,6 +42,7 @@ tokenWord w =
     (cond (eqb w 9) (record { lexer = Done; event = End })
     (record { lexer = Broken; event = Nothing })))))
 
+-- what four bytes are, by what they are part of
 unfoldable pub lexWord : Lexer → ℕ → ℕ → ℕ → ℕ → Lexed
 lexWord Token a b c d = tokenWord (joined a b c d)
 lexWord Name a b c d = record { lexer = nameWord a b c d; event = Nothing }

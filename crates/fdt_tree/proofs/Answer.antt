@@ -13,7 +13,7 @@ use Rattle.fdt_tokens.specs.Lex.{Placed, isDone}
 use Rattle.fdt_tokens.specs.declared.Lexer.the-variants.{Token, Done}
 use Rattle.fdt_tokens.proofs.Lexing.{events, read-whole}
 use Rattle.fdt_nodes.specs.Nodes.{advance, atDepth, pairBytes, raggedReg, beginNode, endNode, childEnd, ended}
-use Rattle.fdt_nodes.specs.Scan.{started, judged, hit, hasPair}
+use Rattle.fdt_nodes.specs.Scan.{started, judged, atPair, hasPair}
 use Rattle.fdt.specs.Passes.{folded, judgedBlock, pairsMet, pairsFrom}
 use Rattle.fdt_nodes.specs.declared.Verdict.{Verdict}
 use Rattle.fdt_nodes.specs.declared.Verdict.the-variants.{Accepted, Invalid, UnsupportedCellCounts}
@@ -79,7 +79,7 @@ module _ (B S : List ℕ) (short : length B ≤ 65536) where
   end-folds n es d r a = ap (λ l. folded B S n l) (a .met .1) ∙ rw (eq-eqb (n .depth) 0 d, r)
 
   end-finds : (n : Nodes) (es : List Placed) → Meets B S [] es → pairsMet B S n es ≡ []
-  unfolding pairsMet hit
+  unfolding pairsMet atPair
   end-finds n es a = ap (λ l. pairsMet B S n l) (a .met .1)
 
   -- from the root's first child on

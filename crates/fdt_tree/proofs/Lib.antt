@@ -1,3 +1,4 @@
+-- The reader answers what the tree says: the steps to it, the theorems, an import, a worked blob.
 pub mod Steps
 pub mod Deep
 pub mod Firsts

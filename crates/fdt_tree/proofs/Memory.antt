@@ -28,7 +28,7 @@ raggedRegs a z (v ∷ vs) = cond (raggedReg (length v) a z) true (raggedRegs a z
 
 module _ (B S : List ℕ) (short : length B ≤ 65536) where
   -- the pairs of a reg, by the reader's counts
-  abbrev pub regOf : ℕ → ℕ → List ℕ → List Pair
+  abbrev regOf : ℕ → ℕ → List ℕ → List Pair
   regOf a z v = pairsOf (length v / (4 * (cellsOf B a + cellsOf B z))) (cellsOf B a) (cellsOf B z) v
 
   pub bytes-are : (a z : ℕ) → pairBytes a z ≡ 4 * (cellsOf B a + cellsOf B z)

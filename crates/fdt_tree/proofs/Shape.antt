@@ -168,7 +168,7 @@ module _ (B S : List ℕ) where
   closed [] n h = tt
   closed (e ∷ es) n h = (closes (e .place) n (e .event) (folded-ok es (advance B S (e .place) n (e .event)) h), closed es (advance B S (e .place) n (e .event)) h)
 
-  pub shape : {l : List ℕ} {ts : List dt.Token} (t : Tokens S l ts) (i : ℕ) (n : Nodes) (d : ℕ) (p : Bool)
+  shape : {l : List ℕ} {ts : List dt.Token} (t : Tokens S l ts) (i : ℕ) (n : Nodes) (d : ℕ) (p : Bool)
       → n .depth ≡ d → n .props ≡ p → n .rooted ≡ true → (p ≡ true → 0 < d) → d + length l < 2 ^ 64
       → folded B S n (events t i) .ok ≡ true → fits d p ts ≡ true
   unfolding advance folded
@@ -193,7 +193,7 @@ module _ (B S : List ℕ) where
       ∙ shape t _ m d p (k .depth ∙ hd) (k .props ∙ hp) (k .rooted ∙ hr) hi (omega (arith, length-append (padded (q .value)) l)) h
 
   -- before the root
-  pub root-shape : {l : List ℕ} {ts : List dt.Token} (t : Tokens S l ts) (i : ℕ) (n : Nodes)
+  root-shape : {l : List ℕ} {ts : List dt.Token} (t : Tokens S l ts) (i : ℕ) (n : Nodes)
       → n .depth ≡ 0 → n .props ≡ false → n .rooted ≡ false → length l < 2 ^ 64
       → folded B S n (events t i) .ok ≡ true → whole ts ≡ true
   unfolding advance folded

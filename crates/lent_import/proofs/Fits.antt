@@ -11,7 +11,7 @@ use Rattle.fdt_tokens.specs.Devicetree.{Pair, joined}
 use Rattle.fdt_tokens.specs.Bytes.{be32At}
 use Rattle.fdt_tokens.specs.Lex.{Placed, read}
 use Rattle.fdt_nodes.specs.Nodes.{width, pairBytes, advance}
-use Rattle.fdt_nodes.specs.Scan.{hit}
+use Rattle.fdt_nodes.specs.Scan.{atPair}
 use Rattle.fdt_nodes.specs.declared.Nodes.{Nodes}
 use Rattle.fdt.specs.declared.Walk.{Walk}
 use Rattle.fdt.specs.declared.Cursor.{Cursor}
@@ -56,7 +56,7 @@ module _ (block strings : List ℕ) (bytes : Bytes block) where
   met-fit (e ∷ es) n =
       let m = advance block strings (e .place) n (e .event) in
       let rest = met-fit es m in
-      cond-all (Every PairFits) (hit (e .event) m) (regPairs block m ++ pairsMet block strings m es) (pairsMet block strings m es)
+      cond-all (Every PairFits) (atPair (e .event) m) (regPairs block m ++ pairsMet block strings m es) (pairsMet block strings m es)
       (every-append PairFits (regPairs block m) (pairsMet block strings m es) (reg-fits m) rest) rest
 
 -- a part of bytes is bytes

@@ -1,4 +1,5 @@
--- The calls of the C interface that are document 01's builder calls and core steps, on the bytes that a host lends, beside the calls that they are. Assumes nothing.
+-- The calls of the C interface that are document 01's builder calls and core steps, and imports, on the bytes that a host lends, beside the
+-- calls that they are. Assumes nothing.
 use Prim.Native.Nat.{ℕ, _≤_}
 use lib.IntN.{ℤ}
 use mathlib.Core.List.{List, [], _∷_, map}

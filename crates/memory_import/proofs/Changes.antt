@@ -49,22 +49,12 @@ change-all-keeps p (c ∷ cs) w = change-all-keeps (change p c .policy) cs (chan
 pub changed-well-formed : (calls : List PolicyCall) → WellFormed (changeAll freshPolicy calls)
 changed-well-formed calls = change-all-keeps freshPolicy calls fresh-well-formed
 
--- one list of calls after another
-pub change-append : (a b : List PolicyCall) (p : Policy) → changeAll p (a ++ b) ≡ changeAll (changeAll p a) b
-change-append [] b p = refl
-change-append (c ∷ cs) b p = change-append cs b (change p c .policy)
-
 -- every builder call of a list is accepted, each made on the policy that the last one left
 abbrev pub AllBuilt : Policy → List BuilderCall → Type 0
 AllBuilt p [] = Unit {0}
 AllBuilt p (c ∷ cs) = (build p c .answer ≡ Accepted) × AllBuilt (build p c .policy) cs
 
--- two lists of calls are all accepted one after the other
-pub all-append : (a b : List BuilderCall) (p : Policy) → AllBuilt p a → AllBuilt (buildAll p a) b → AllBuilt p (a ++ b)
-all-append [] b p h k = k
-all-append (c ∷ cs) b p h k = (h .0, all-append cs b (build p c .policy) (h .1) k)
-
--- and where both together are, each is
+-- where two lists of calls are all accepted one after the other, each is
 pub all-parts : (a b : List BuilderCall) (p : Policy) → AllBuilt p (a ++ b) → AllBuilt p a × AllBuilt (buildAll p a) b
 all-parts [] b p h = (tt, h)
 all-parts (c ∷ cs) b p h =

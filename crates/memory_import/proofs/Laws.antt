@@ -29,11 +29,11 @@ allOrNone old p calls = builtBy (answerOfAll p calls) old (buildAll p calls)
 
 -- what the reader says of a slice, and the calls that it stands for, by its memory
 module _ (blob : List ℕ) (attributes : ℕ) {m : Memory} (told : m ≡ memoryOf blob) where
-  pub reading-by : reading blob ≡ readingOf (memoryAnswer blob m)
+  reading-by : reading blob ≡ readingOf (memoryAnswer blob m)
   unfolding reading blobAnswer
   reading-by = ap (λ x. readingOf (memoryAnswer blob x)) (sym told)
 
-  pub calls-by : importCalls blob attributes ≡ allowCalls attributes (pairsIn (memoryAnswer blob m))
+  calls-by : importCalls blob attributes ≡ allowCalls attributes (pairsIn (memoryAnswer blob m))
   unfolding importCalls blobAnswer
   calls-by = ap (λ x. allowCalls attributes (pairsIn (memoryAnswer blob x))) (sym told)
 

@@ -44,7 +44,7 @@ AboveAnswer10 s steps = (a : Answer) → List·Memᴰ a (answersTo isAbove s ste
 
 -- "Found", of the runs from `s` and from `t`
 pub record Found (key : ℕ → ℕ) (s t : State) (calls order : List PolicyCall) (steps mixed : List CoreCall) : Type 0 where
-  -- "every builder call accepted again"
+  -- "every builder call accepted again", and every import but that of a slice that the reader refuses
   pub accepted-again : AllAccepted (t .policy) order
   -- "and at the end the same .."
   pub same-end : Same key (afterSteps (afterChanges s calls) steps) (afterSteps (afterChanges t order) mixed)

@@ -1,4 +1,4 @@
-use Rattle.fdt_nodes.specs.Scan.{hit}
+use Rattle.fdt_nodes.specs.Scan.{atPair}
 use borrow.Author.Needs.{needs}
 use Rattle.fdt_nodes.proofs.at_pair.Statement.{statement}
 use Rattle.fdt_nodes.proofs.at_pair.Tie as tie
@@ -22,23 +22,23 @@ enum-told-4 : tie.Need-enum-told-4
 enum-told-4 c = search needs
 
 returns : tie.Need-returns
-unfolding hit
+unfolding atPair
 returns c = rw (c .enum-told .given .1)
 
 returns-2 : tie.Need-returns-2
-unfolding hit
+unfolding atPair
 returns-2 c = rw (c .enum-told2 .given .1)
 
 returns-3 : tie.Need-returns-3
-unfolding hit
+unfolding atPair
 returns-3 c = rw (c .before .enum-told3 .given .1) (c .has-pair .ensures)
 
 returns-4 : tie.Need-returns-4
-unfolding hit
+unfolding atPair
 returns-4 c = rw (c .before .event .given .1)
 
 returns-5 : tie.Need-returns-5
-unfolding hit
+unfolding atPair
 returns-5 c = rw (c .enum-told4 .given .1)
 
 pub at-pair-spec : {M : Type 1} → statement M
