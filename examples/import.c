@@ -37,7 +37,7 @@ static const char *meaning(uint64_t number)
     case RITM_ALLOWED_RANGE_OVERLAPS_MEMORY_ACCESS_HANDLER:
         return "a range shares a byte with a region";
     case RITM_INVALID_DEVICETREE:
-        return "no devicetree blob of up to 64 KiB that is read";
+        return "no devicetree blob of up to 64 KiB that is read, or a cell count or a reg has a wrong length";
     case RITM_UNSUPPORTED_CELL_COUNTS:
         return "the root's cell counts are not 1 or 2";
     default:

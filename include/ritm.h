@@ -150,7 +150,8 @@ enum ritm_refusal {
     RITM_NO_SYNDROME = 19,
     /* A handler's number is none of enum ritm_memory_handler. */
     RITM_UNKNOWN_MEMORY_HANDLER = 20,
-    /* The bytes are no devicetree blob of up to 64 KiB that ritm_import_memory reads. */
+    /* The bytes are no devicetree blob of up to 64 KiB that ritm_import_memory reads, or a cell count of its root or a
+       memory node's reg has a wrong length. */
     RITM_INVALID_DEVICETREE = 21,
     /* The devicetree's root has an #address-cells or #size-cells other than 1 and 2. */
     RITM_UNSUPPORTED_CELL_COUNTS = 22
@@ -321,9 +322,12 @@ uint64_t ritm_handle_range(struct ritm_policy *policy, uint64_t base_ipa, uint64
  * Refusals: 21; 22; then that of the first pair that is refused, 1 to 7. A size of 0, as in a blob whose memory a boot
  * loader has yet to fill in, is 2.
  *
- * The blob may stand at any address, but not over the policy. Of its length bytes only the first totalsize are read, so
- * that length may be more than totalsize and than 64 KiB. A totalsize above 65,536 is 21, and so is length 0, for which
- * alone blob may be null.
+ * The blob may stand at any address, but not over the policy. All of its length bytes must be the caller's to read;
+ * only the first totalsize are read, so that length may be more than totalsize and than 64 KiB. A totalsize above
+ * 65,536 is 21, and so is length 0, for which alone blob may be null.
+ *
+ * It works on a copy of the policy, and takes some 2.7 KiB of stack, where every other call takes 128 bytes at most
+ * (the strict archive's 1,024).
  *
  * A blob straight from QEMU is refused with 21: its totalsize is 1 MiB, and some of its values are not filled up with
  * zero bytes, which fdt_pack leaves so. A host writes it anew first, with dtc -I dtb -O dtb.

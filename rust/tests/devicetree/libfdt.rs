@@ -131,7 +131,7 @@ impl Compared {
 
     fn print(&self) {
         println!("libfdt: both take {}, both refuse {}", self.both_take, self.both_refuse);
-        println!("libfdt: not asked, since it would not return: {}", self.not_asked);
+        println!("libfdt: not asked, since it would not return or would crash: {}", self.not_asked);
         for (who, reasons) in [("21 here", &self.refused_here), ("refused there", &self.refused_there)] {
             for (reason, times) in reasons {
                 println!("libfdt: {who}: {reason}: {times}");

@@ -1,8 +1,8 @@
 //! Devicetrees, whole and damaged: the archive imports what a plain reader of our own finds in them,
 //! as if each pair were allowed by a call of its own, and is refused where a rule is broken.
 //!
-//! The reader is written from what was settled about the specification's chapter 5, without a look
-//! at the library; the published text was not at hand. The seed is fixed; `RITM_SEED` names another.
+//! The reader is written from the readings of the specification's chapter 5 in docs/DECISIONS.md,
+//! apart from the library. The seed is fixed; `RITM_SEED` names another.
 
 mod blob;
 mod case;
@@ -30,7 +30,8 @@ use met::Met;
 use random::Random;
 use std::env;
 
-const BLOBS: u64 = 1_000_000;
+/// A million of them are damaged, two in seven are whole.
+const BLOBS: u64 = 1_400_000;
 const DEFAULT_SEED: u64 = 0x5249_544d;
 
 fn seed() -> u64 {
