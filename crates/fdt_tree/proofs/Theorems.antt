@@ -22,6 +22,7 @@ use Rattle.fdt_nodes.specs.declared.Verdict.the-variants as verdict
 use Rattle.fdt_nodes.proofs.Laws.{whole}
 use Rattle.fdt_tokens.specs.declared.Lexer.the-variants.{Token}
 use Rattle.fdt.specs.declared.Blocks.{Blocks}
+use Rattle.fdt_tree.specs.Blobs.{Blob, Says}
 use Rattle.fdt_tree.proofs.Answer.{answered, block-answered}
 use Rattle.fdt_tree.proofs.Shape.{Formed, block-formed}
 use Rattle.fdt_tree.proofs.Header.{span-is, word-field, field-is, ends-listed, listed-ends}
@@ -211,11 +212,6 @@ blob-answered s t x =
     ∙ (ap (λ S. answered (judgedBlock (span b (field b 8) (field b 36)) S) (pairsFrom (span b (field b 8) (field b 36)) S 0 Token (started .nodes) (span b (field b 8) (field b 36)))) q
     ∙ block-answered (span b (field b 8) (field b 36)) (span b (field b 12) (field b 32)) (short-part b (field b 36) (field b 8) (omega arith)) t (x .struct)))
 
--- a slice that is a blob of some tree
-pub record Blob (s : List ℕ) : Type 0 where
-  pub tree : Tree
-  pub is : BlobOf s tree
-
 -- blocks that are invalid make the slice so
 blocks-invalid : (s : List ℕ) (b : Blocks) → judgedBlock (blockOf s b) (stringsOf s b) ≡ verdict.Invalid → blocksMemory s b ≡ Invalid
 unfolding blocksMemory memoryBy
@@ -292,11 +288,6 @@ pub invalid-only : (s : List ℕ) → blobAnswer s ≡ dt.invalid → (t : Tree)
 invalid-only s e t x = sym (blob-answered s t x) ∙ e
 
 -- Any other answer, 22 or 0 with its pairs, is given exactly where some tree that the slice is a blob of says so.
-pub record Says (s : List ℕ) (a : dt.Said) : Type 0 where
-  pub tree : Tree
-  pub is : BlobOf s tree
-  pub says-so : says tree ≡ a
-
 pub answer-said : (s : List ℕ) (a : dt.Said) → blobAnswer s ≡ a → (a ≡ dt.invalid → ⊥) → Says s a
 answer-said s a e h =
     let b = valid-blob s (λ n. h (sym e ∙ n)) in

@@ -1,1 +1,2 @@
--- The theorems stand in proofs/, the definitions in fdt_tokens.
+-- What the theorems of `fdt_tree` say; the devicetree's own definitions stand in `fdt_tokens`.
+pub mod Blobs

@@ -16,7 +16,7 @@ use Rattle.stage2.proofs.Laws.{built-answer, built-refused, build-refused}
 use Rattle.stage2.proofs.WellFormed.{build-keeps, build-all-keeps, fresh-well-formed}
 use Rattle.memory_import.specs.Import.{allowCalls, readingOf, pairsIn, reading, importCalls, answerOfAll, importAnswer, importMemory, importBy}
 use Rattle.memory_import.proofs.Laws.{refused}
-use Rattle.memory_import.specs.Changes.{PolicyCall, builder, import-memory, change, changeAll, takenApart, readFirst}
+use Rattle.memory_import.specs.Changes.{AllBuilt, PolicyCall, builder, import-memory, change, changeAll, takenApart, readFirst}
 
 -- one list of builder calls after another
 pub build-append : (a b : List BuilderCall) (p : Policy) → buildAll p (a ++ b) ≡ buildAll (buildAll p a) b
@@ -48,11 +48,6 @@ change-all-keeps p (c ∷ cs) w = change-all-keeps (change p c .policy) cs (chan
 -- and from fresh every policy is well formed
 pub changed-well-formed : (calls : List PolicyCall) → WellFormed (changeAll freshPolicy calls)
 changed-well-formed calls = change-all-keeps freshPolicy calls fresh-well-formed
-
--- every builder call of a list is accepted, each made on the policy that the last one left
-abbrev pub AllBuilt : Policy → List BuilderCall → Type 0
-AllBuilt p [] = Unit {0}
-AllBuilt p (c ∷ cs) = (build p c .answer ≡ Accepted) × AllBuilt (build p c .policy) cs
 
 -- where two lists of calls are all accepted one after the other, each is
 pub all-parts : (a b : List BuilderCall) (p : Policy) → AllBuilt p (a ++ b) → AllBuilt p a × AllBuilt (buildAll p a) b

@@ -1,5 +1,6 @@
 -- The calls that change a policy, and lists of them. Assumes nothing.
 use Prim.Native.Nat.{ℕ}
+use mathlib.Core.Path.{_≡_}
 use mathlib.Core.List.{List, [], _∷_, _++_}
 use Rattle.stage2_range.specs.declared.Stage2Result.{Stage2Result}
 use Rattle.stage2_range.specs.declared.Stage2Result.the-variants.{Accepted}
@@ -37,3 +38,8 @@ allApart (c ∷ cs) = takenApart c ++ allApart cs
 abbrev pub readFirst : PolicyCall → Stage2Result
 readFirst (builder c) = Accepted
 readFirst (import-memory blob attributes) = reading blob
+
+-- every builder call of a list is accepted, each made on the policy that the last one left
+abbrev pub AllBuilt : Policy → List BuilderCall → Type 0
+AllBuilt p [] = Unit {0}
+AllBuilt p (c ∷ cs) = (build p c .answer ≡ Accepted) × AllBuilt (build p c .policy) cs

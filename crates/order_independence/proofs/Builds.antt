@@ -23,8 +23,8 @@ use Rattle.stage2.specs.declared.Policy.{Policy}
 use Rattle.stage2.specs.declared.Built.{Built}
 use Rattle.stage2.specs.Policy.{allowedHeld, regionsHeld}
 use Rattle.stage2.specs.Builds.{BuilderCall, allow, handle, build, buildAll, Apart, CanAllow, CanHandle, WellFormed}
-use Rattle.memory_import.specs.Changes.{PolicyCall, change, changeAll, takenApart, allApart}
-use Rattle.memory_import.proofs.Changes.{change-refused, change-keeps, AllBuilt, all-parts, accepted-apart, apart-accepted, build-append}
+use Rattle.memory_import.specs.Changes.{AllBuilt, PolicyCall, change, changeAll, takenApart, allApart}
+use Rattle.memory_import.proofs.Changes.{change-refused, change-keeps, all-parts, accepted-apart, apart-accepted, build-append}
 use Rattle.order_independence.specs.Builds.{accepts, accepted, AllAccepted, SamePolicy}
 use Rattle.stage2.proofs.Laws.{allow-accepted, can-allow, handle-accepted, can-handle}
 use Rattle.stage2.proofs.WellFormed.{build-keeps}
