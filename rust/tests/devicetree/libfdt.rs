@@ -10,7 +10,7 @@ use std::collections::BTreeMap;
 use std::ffi::{c_int, c_void};
 
 const HEADER_SIZE: usize = 40;
-/// How often a run of a million must meet each reason.
+/// How often a run must meet each reason.
 const AT_LEAST: u64 = 100;
 
 /// With this length a property ends where it begins by libfdt's arithmetic, so that `fdt_check_full`

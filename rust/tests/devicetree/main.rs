@@ -1,8 +1,8 @@
 //! Devicetrees, whole and damaged: the archive imports what a plain reader of our own finds in them,
 //! as if each pair were allowed by a call of its own, and is refused where a rule is broken.
 //!
-//! The reader is written from the readings of the specification's chapter 5 in docs/DECISIONS.md,
-//! apart from the library. The seed is fixed; `RITM_SEED` names another.
+//! The reader follows the readings of the specification's chapter 5 in docs/DECISIONS.md and shares
+//! nothing with the library. The seed is fixed; `RITM_SEED` names another.
 
 mod blob;
 mod case;
@@ -30,7 +30,7 @@ use met::Met;
 use random::Random;
 use std::env;
 
-/// A million of them are damaged, two in seven are whole.
+/// Five in seven are damaged: about a million.
 const BLOBS: u64 = 1_400_000;
 const DEFAULT_SEED: u64 = 0x5249_544d;
 

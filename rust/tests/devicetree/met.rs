@@ -4,7 +4,7 @@ use crate::fault::Fault;
 use crate::memory::Read;
 use std::collections::BTreeMap;
 
-/// How often a run of a million must meet each, and each fault by blobs that were damaged once.
+/// How often a run must meet each, and each fault by blobs that were damaged at most once.
 const AT_LEAST: u64 = 300;
 
 pub struct Met {
