@@ -62,6 +62,18 @@ check_module() { # MODULE
     return 0
 }
 
+# The two roundings to a page divide and multiply nowhere, and call nothing that could; no contract says so. (clang makes
+# a mask of a division by 4,096, so that the archives would not show it.)
+check_roundings() { # MODULE
+    for name in align_down_to_page align_up_to_page; do
+        sed -n "/^define .*@\"stage2_range::$name\"(/,/^}/p" "$1" >"$WORK/rounding"
+        [ -s "$WORK/rounding" ] || fail "the module has no $name"
+        if grep -E ' = (mul|udiv|urem) |call .*@"' "$WORK/rounding"; then
+            fail "$name divides, multiplies or calls another function"
+        fi
+    done
+}
+
 # The part of the module that is not wanted is made internal, so that clang leaves it out. The import reads bytes and
 # copies records that are not made of 64-bit words: so that it needs no alignment, it is a part of its own.
 split_module() { # MODULE

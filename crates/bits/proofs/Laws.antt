@@ -2,8 +2,8 @@
 -- a number is split above and below. Assumes nothing.
 use mathlib.Core.Path.{_≡_, ap, ap₂, sym, _∙_}
 use mathlib.Core.Bool.{not}
-use Prim.Native.Nat.{ℕ, zero, suc, _+_, _*_, _/_, _%_, _^_, _-_, _<_}
-use native.Mathlib.Nat.{zero-mul, one-mul, mod-lt, mul-assoc, add-mul, mul-le-mul-right}
+use Prim.Native.Nat.{ℕ, zero, suc, _+_, _*_, _/_, _%_, _^_, _-_, _<_, _≤_}
+use native.Mathlib.Nat.{add-zero, zero-mul, one-mul, mod-lt, mul-assoc, add-mul, mul-le-mul-right}
 use native.Mathlib.Omega.{arith}
 use borrow.Author.Tests.{ne-eqb}
 use lib.Bits.{bitAnd, bitOr, and-mask, and-high, and-block, or-block, or-zero-r, or-shifted-r}
@@ -79,6 +79,16 @@ module _ (j n k : ℕ) where
       ∙ or-block (n + k) hi 0 lo (v * 2 ^ k) (below (mod-lt x (pow-pos k))) (shl-lt n k f)
       ∙ ap₂ (λ (a b : ℕ). a * 2 ^ (n + k) + b) (or-zero-r hi) (or-shifted-r v k lo (mod-lt x (pow-pos k)))
       ∙ omega arith
+
+-- `x & !(2^k - 1)` in a word of `w` bits: its low `k` bits are cleared
+pub low-cleared : (w k x : ℕ) → k ≤ w → x < 2 ^ w → bitAnd x (2 ^ w - 2 ^ k) ≡ x - x % 2 ^ k
+unfolding withBits
+low-cleared w k x h f =
+    let whole : w ≡ w - k + (k + 0) = omega (arith, h) in
+    let ones : 2 ^ w - 2 ^ k ≡ mask (w - k) k 0 = omega (arith, ap (λ (v : ℕ). 2 ^ v) whole, pow-pos k) in
+    ap (bitAnd x) ones
+    ∙ bits-cleared (w - k) k 0 x (rw (sym whole) f)
+    ∙ omega (arith, split x k, ap (λ (v : ℕ). x / 2 ^ v * 2 ^ v) (add-zero k))
 
 -- What `x` with `v` as its `n` bits from bit `k` on has there, below them and above them.
 module _ (x k n v : ℕ) (f : v < 2 ^ n) where

@@ -314,6 +314,9 @@ impl MemoryAccessRegion {
 
 const STAGE2_PAGE_SIZE: u64 = 4096;
 
+// The bits of an address that its page boundary keeps: all but the low 12.
+const STAGE2_PAGE_MASK: u64 = !(STAGE2_PAGE_SIZE - 1);
+
 // The last byte that a range may have, and the largest end.
 const MAX_LAST_IPA: u64 = 0xFFFF_FFFF_FFFF_FFFE;
 
@@ -323,17 +326,18 @@ const MAX_END_IPA: u64 = MAX_LAST_IPA + 1;
 pub fn align_down_to_page(address: u64) -> u64
     ensures { λ r. ⌜ r ≡ alignDown address ⌝ }
 {
-    address / STAGE2_PAGE_SIZE * STAGE2_PAGE_SIZE
+    address & STAGE2_PAGE_MASK
 }
 
-// Rounds `address` up to the nearest page boundary.
+// Rounds `address` up to the nearest page boundary. (The test stands before the sum, so that the sum fits a word.)
 pub fn align_up_to_page(address: u64) -> AlignedUp
     ensures { λ r. ⌜ r ≡ alignUp address ⌝ }
 {
     if 0xFFFF_FFFF_FFFF_F000 < address {
         AlignedUp::NoPageAbove
     } else {
-        AlignedUp::Address(align_down_to_page(address + (STAGE2_PAGE_SIZE - 1)))
+        let sum = address + (STAGE2_PAGE_SIZE - 1);
+        AlignedUp::Address(sum & STAGE2_PAGE_MASK)
     }
 }
 

@@ -12,6 +12,8 @@ mod port;
 mod random;
 mod record;
 mod ritm_rust;
+#[cfg(test)]
+mod roundings;
 mod shrink;
 mod tally;
 

@@ -34,6 +34,20 @@ pub const EDITS: &[Edit] = &[
         lists: 50,
     },
     Edit {
+        name: "rounding down goes to half a page",
+        file: STAGE2,
+        old: "address / PAGE_SIZE * PAGE_SIZE",
+        new: "address / (PAGE_SIZE / 2) * (PAGE_SIZE / 2)",
+        lists: 50,
+    },
+    Edit {
+        name: "rounding up leaves no boundary where it is",
+        file: STAGE2,
+        old: "address.next_multiple_of(PAGE_SIZE)",
+        new: "(address + 1).next_multiple_of(PAGE_SIZE)",
+        lists: 50,
+    },
+    Edit {
         name: "x3 stays at a reply of one value",
         file: HVC_RESPONSE,
         old: "HvcResult::Handled(Ok(HvcResponse::Success(results))) => {
