@@ -62,8 +62,8 @@ check_module() { # MODULE
     return 0
 }
 
-# The two roundings to a page divide and multiply nowhere, and call nothing that could; no contract says so. (clang makes
-# a mask of a division by 4,096, so that the archives would not show it.)
+# The two roundings to a page divide and multiply nowhere, and call nothing that could; no contract says so. (clang
+# makes a mask of a division by 4,096, so that the archives would not show it.)
 check_roundings() { # MODULE
     for name in align_down_to_page align_up_to_page; do
         sed -n "/^define .*@\"stage2_range::$name\"(/,/^}/p" "$1" >"$WORK/rounding"
