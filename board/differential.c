@@ -79,11 +79,16 @@ static uint64_t core(void)
     return once_in(24) ? number() : below(RITM_MAX_CORES);
 }
 
-static uint64_t function_id(void)
+/* What a guest calls with in x0: a function identifier near the firmware's, of RITM's test call or of a yielding call,
+   often with bit 16 set, a fast call's hint, and at times with bits of the upper half. */
+static uint64_t call_register(void)
 {
-    static const uint64_t starts[] = {0x84000000, 0xc4000000, 0x184000000, 0xff000000};
+    static const uint64_t starts[] = {0x84000000, 0xc4000000, 0xff000000, 0x04000000};
     const uint64_t start = starts[below(4)];
-    return once_in(8) ? any() : start + below(40) - 4;
+    const uint64_t identifier = start + below(40) - 4;
+    const uint64_t hint = below(2) << 16;
+    const uint64_t upper = once_in(4) ? any() << 32 : 0;
+    return once_in(8) ? any() : upper | hint | identifier;
 }
 
 /* Bits 31:0 are an ISS, of which ISV and 64 bits are frequent. */
@@ -130,7 +135,7 @@ static void fill(struct buffer *buffer)
     }
 }
 
-/* Of the registers, x0 has a function identifier and some the value that the filtered MMIO page takes. */
+/* Of the registers, x0 has what a guest calls with and some the value that the filtered MMIO page takes. */
 static void fill_registers(void)
 {
     fill(&registers);
@@ -139,7 +144,7 @@ static void fill_registers(void)
             ritm_put_word(registers.start, k, UINT64_C(0x123456789abcdef0));
         }
     }
-    ritm_put_word(registers.start, 0, function_id());
+    ritm_put_word(registers.start, 0, call_register());
 }
 
 /*
@@ -497,7 +502,9 @@ static void count(const struct call *call, uint64_t answer)
         outcome.import_answers[answer]++;
     }
     if (call->make == trap) {
-        outcome.trap_kinds[ritm_get_word(trapped.start, RITM_TRAP_KIND) % TRAP_KINDS]++;
+        const uint64_t kind = ritm_get_word(trapped.start, RITM_TRAP_KIND) % TRAP_KINDS;
+        outcome.trap_kinds[kind]++;
+        outcome.hinted_kinds[kind] += ritm_get_word(trapped.start, RITM_TRAP_HINT);
     }
 }
 
@@ -513,7 +520,7 @@ static void make_call(void)
 
 struct outcome make_random_calls(uint64_t seed, uint64_t number_of_calls, int aligned)
 {
-    outcome = (struct outcome){{0}, {0}, {0}, 0, 0};
+    outcome = (struct outcome){{0}, {0}, {0}, {0}, 0, 0};
     state = seed;
     for (uint64_t i = 0; i < number_of_calls; i++) {
         if (i % LIST_LENGTH == 0) {

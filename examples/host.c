@@ -64,6 +64,11 @@
 #define TEST_CALL_ANSWER UINT64_C(0x123456789abcdef0)
 #define UNKNOWN_CALL UINT64_C(0xc5000000)
 
+/* What may stand in x0 beside a function identifier (Arm DEN0028 from version 1.3 on): bits of the upper half, which
+   mean nothing, and in a fast call the hint that the guest holds no live SVE state. */
+#define UPPER_HALF UINT64_C(0x100000000)
+#define SVE_HINT UINT64_C(0x10000)
+
 /* What the filtered MMIO page takes. */
 #define STORE_OFFSET UINT64_C(8)
 #define STORE_VALUE UINT64_C(0x123456789abcdef0)
@@ -194,27 +199,24 @@ static void run_guest(struct host *host, uint64_t core, size_t index, uint64_t v
 }
 
 /* Takes a trap. The guest's MMU is off: the faulting virtual address is the IPA. */
-static uint64_t trap(struct host *host, uint64_t core, uint64_t esr, uint64_t ipa, uint64_t *kind)
+static uint64_t trap(struct host *host, uint64_t core, uint64_t esr, uint64_t ipa, struct ritm_trap_result *trapped)
 {
-    struct ritm_trap_result trapped;
-    const uint64_t number =
-        ritm_trap(&host->policy, &host->cores, core, esr, ipa / PAGE_SIZE, ipa, GUEST_VBAR, &trapped);
-    *kind = ritm_get_word(&trapped, RITM_TRAP_KIND);
-    return number;
+    return ritm_trap(&host->policy, &host->cores, core, esr, ipa / PAGE_SIZE, ipa, GUEST_VBAR, trapped);
 }
 
-static void expect_trap(struct host *host, uint64_t core, uint64_t esr, uint64_t ipa, uint64_t kind)
+static struct ritm_trap_result expect_trap(struct host *host, uint64_t core, uint64_t esr, uint64_t ipa, uint64_t kind)
 {
-    uint64_t answered;
-    expect_accepted("a trap", trap(host, core, esr, ipa, &answered));
-    expect("a trap's kind", answered, kind);
+    struct ritm_trap_result trapped;
+    expect_accepted("a trap", trap(host, core, esr, ipa, &trapped));
+    expect("a trap's kind", ritm_get_word(&trapped, RITM_TRAP_KIND), kind);
+    return trapped;
 }
 
 static void expect_refused_trap(struct host *host, uint64_t core, const char *what, uint64_t refusal)
 {
-    uint64_t answered;
-    expect(what, trap(host, core, ESR_LOAD, FILTERED_MMIO_BASE, &answered), refusal);
-    expect("a refused trap's kind", answered, RITM_TRAP_REFUSED);
+    struct ritm_trap_result trapped;
+    expect(what, trap(host, core, ESR_LOAD, FILTERED_MMIO_BASE, &trapped), refusal);
+    expect("a refused trap's kind", ritm_get_word(&trapped, RITM_TRAP_KIND), RITM_TRAP_REFUSED);
     printf("core %" PRIu64 ": %s: refused %" PRIu64 "\n", core, what, refusal);
 }
 
@@ -248,6 +250,36 @@ static void call_platform(struct host *host, uint64_t core)
     expect_trap(host, core, ESR_HVC, 0, RITM_TRAP_TO_PLATFORM);
     printf("core %" PRIu64 ": HVC 0x%" PRIx64 ", an unknown call: to the platform\n", core, UNKNOWN_CALL);
     reply(host, core, RITM_REPLY_UNHANDLED, 0, UINT64_MAX);
+}
+
+/* A call goes to its recipient by its function identifier, whatever else stands in x0. */
+static void call_by_identifier(struct host *host, uint64_t core)
+{
+    static const struct {
+        const char *conduit;
+        uint64_t esr;
+        uint64_t x0;
+        uint64_t kind;
+        uint64_t identifier;
+        uint64_t hint;
+        uint64_t answer;
+    } calls[] = {
+        {"SMC", ESR_SMC, PSCI_VERSION | UPPER_HALF, RITM_TRAP_TO_FIRMWARE, PSCI_VERSION, 0, PSCI_1_1},
+        {"HVC", ESR_HVC, PSCI_VERSION | SVE_HINT, RITM_TRAP_TO_FIRMWARE, PSCI_VERSION, 1, PSCI_1_1},
+        {"HVC", ESR_HVC, TEST_CALL | UPPER_HALF | SVE_HINT, RITM_TRAP_TO_PLATFORM, TEST_CALL, 1, TEST_CALL_ANSWER},
+    };
+    for (size_t i = 0; i < sizeof calls / sizeof calls[0]; i++) {
+        run_guest(host, core, 0, calls[i].x0);
+        const struct ritm_trap_result trapped = expect_trap(host, core, calls[i].esr, 0, calls[i].kind);
+        const uint64_t identifier = ritm_get_word(&trapped, RITM_TRAP_VALUES);
+        const uint64_t hint = ritm_get_word(&trapped, RITM_TRAP_HINT);
+        expect("a function identifier", identifier, calls[i].identifier);
+        expect("an SVE hint", hint, calls[i].hint);
+        printf("core %" PRIu64 ": %s 0x%" PRIx64 ": to the %s as 0x%" PRIx64 ", SVE hint %" PRIu64 "\n", core,
+               calls[i].conduit, calls[i].x0, calls[i].kind == RITM_TRAP_TO_FIRMWARE ? "firmware" : "platform",
+               identifier, hint);
+        reply(host, core, RITM_REPLY_VALUE, calls[i].answer, calls[i].answer);
+    }
 }
 
 /* Each word of the filtered MMIO page, and the counter once more, from another core too: it grows by each load. */
@@ -302,6 +334,7 @@ static void boot(struct host *host)
     start_guest(host, 1);
     call_firmware(host, 0);
     call_platform(host, 0);
+    call_by_identifier(host, 0);
     load_words(host);
     store_words(host, 0);
     expect_refused_trap(host, 8, "a trap on a ninth core", RITM_NO_SUCH_CORE);

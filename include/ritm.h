@@ -53,7 +53,7 @@ extern "C" {
 #define RITM_MAP_SIZE 256
 #define RITM_REGISTERS_SIZE 264
 #define RITM_VALUES_SIZE 144
-#define RITM_TRAP_RESULT_SIZE 152
+#define RITM_TRAP_RESULT_SIZE 160
 #define RITM_FIND_RESULT_SIZE 24
 #define RITM_ENTRY_RESULT_SIZE 24
 #define RITM_ACCESS_RESULT_SIZE 48
@@ -183,9 +183,9 @@ enum ritm_trap_kind {
     RITM_TRAP_STORE_HANDLED = 2,
     /* ELR and SPSR lead to the guest's vector. The host writes ELR_EL1, SPSR_EL1, FAR_EL1 and ESR_EL1 from the core. */
     RITM_TRAP_ABORT_INJECTED = 3,
-    /* The core waits. The host asks the firmware, with x0 to x3, and replies. */
+    /* The core waits. The host asks the firmware, with the first four values, and replies. */
     RITM_TRAP_TO_FIRMWARE = 4,
-    /* The core waits. The host answers itself, by x0 to x17, and replies. */
+    /* The core waits. The host answers itself, by the eighteen values, and replies. */
     RITM_TRAP_TO_PLATFORM = 5
 };
 
@@ -256,9 +256,11 @@ enum ritm_reply_kind {
 /* Values of a reply: as many from the first on as its kind uses. */
 #define RITM_VALUES_COUNT 18
 
-/* Trap result: the kind, then x0 to x3 for the firmware or x0 to x17 for the platform. */
+/* Trap result: the kind; the values of a forwarded call, its function identifier and then x1 to x3 for the firmware or
+   x1 to x17 for the platform; and its hint, 0 or 1. */
 #define RITM_TRAP_KIND 0
 #define RITM_TRAP_VALUES 1
+#define RITM_TRAP_HINT 19
 
 /* Find result. */
 #define RITM_FIND_FOUND 0
@@ -351,7 +353,14 @@ uint64_t ritm_save(struct ritm_cores *cores, uint64_t core, const struct ritm_re
    then goes on from its registers, or waits for the reply to a forwarded call. Refusals 10 to 13. After 12 and 13 the
    core stands at the instruction that trapped: returning to the guest makes the same trap again, for ever, so the host
    must stop the guest or move it on. After a stage-2 permission fault HPFAR_EL2 need not be valid (Arm DDI 0601): a
-   host whose attributes allow a range for reading or for writing alone finds the IPA itself (AT S1E1R, AT S1E1W). */
+   host whose attributes allow a range for reading or for writing alone finds the IPA itself (AT S1E1R, AT S1E1W).
+
+   A call, by HVC or SMC, is forwarded by its function identifier (Arm DEN0028 from version 1.3 on): the low 32 bits of
+   x0, of which bit 16 is cleared in a fast call, one with bit 31 set. PSCI's identifiers, 0x84000000 to 0x8400001F and
+   0xC4000000 to 0xC400001F, go to the firmware, all others to the platform. The identifier is handed out in place of
+   x0; the other registers are handed out whole, and the core's own x0 stays as it was. The hint is that bit 16 of a
+   fast call: 1 where the guest says that it holds no live SVE state. It is 0 in a yielding call and in every other
+   answer. A host that passes the call on to firmware of that version may set bit 16 again by it. */
 uint64_t ritm_trap(const struct ritm_policy *policy, struct ritm_cores *cores, uint64_t core, uint64_t esr,
                    uint64_t fipa, uint64_t far, uint64_t vbar, struct ritm_trap_result *trapped);
 

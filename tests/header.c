@@ -166,11 +166,22 @@ static uint64_t find_place(const uint64_t *a)
 /*
  * The cores. Core 1 takes one trap after a save in which register word k holds SAVED(k), but for x0 where a call is
  * named, and 5, the register of loads and stores, where one is to be stored. SAVED(32), the SPSR, has the mode of EL1
- * on its own stack, 5, in bits 4:0.
+ * on its own stack, 5, in bits 4:0. SAVED(0) is a yielding call, in which bit 16 is no hint: its identifier is its low
+ * 32 bits. What the trap's result holds before is STALE.
  */
 
-#define SAVED(k) (UINT64_C(0x1000005) + (k))
+#define SAVED(k) (UINT64_C(0xf000000001010005) + (k))
+#define SAVED_IDENTIFIER UINT64_C(0x01010005)
+#define STALE 0xa5
+
+/* Function identifiers, the last of a yielding call; and what may stand in x0 beside one: a bit of the upper half, and
+   bit 16, a fast call's hint. */
 #define FIRMWARE_CALL UINT64_C(0x84000000)
+#define PLATFORM_CALL UINT64_C(0xff000000)
+#define YIELDING_CALL UINT64_C(0x04000000)
+#define UPPER_HALF UINT64_C(0x100000000)
+#define SVE_HINT UINT64_C(0x10000)
+#define HINTED (FIRMWARE_CALL | UPPER_HALF | SVE_HINT)
 #define VBAR UINT64_C(0x80000)
 #define FAR UINT64_C(0x7654000)
 
@@ -206,6 +217,7 @@ static uint64_t trap_on(struct machine *machine, uint64_t core, uint64_t esr, ui
 static void make_machine(struct machine *machine, const uint64_t *trap)
 {
     struct ritm_registers registers;
+    memset(&machine->trapped, STALE, sizeof machine->trapped);
     for (size_t k = 0; k < RITM_REGISTERS_SIZE / 8; k++) {
         ritm_put_word(&registers, k, SAVED(k));
     }
@@ -245,6 +257,22 @@ static uint64_t trap_place(const uint64_t *a)
     return place_of(a[3], &machine.trapped, sizeof machine.trapped);
 }
 
+/* The first value of a trap's result: a call's function identifier. */
+static uint64_t identifier(const uint64_t *a)
+{
+    struct machine machine;
+    make_machine(&machine, a);
+    return ritm_get_word(&machine.trapped, RITM_TRAP_VALUES);
+}
+
+/* A trap's hint. */
+static uint64_t hint(const uint64_t *a)
+{
+    struct machine machine;
+    make_machine(&machine, a);
+    return ritm_get_word(&machine.trapped, RITM_TRAP_HINT);
+}
+
 /* Where the cores hold a word after a trap. The fourth argument is the word. */
 static uint64_t core_place(const uint64_t *a)
 {
@@ -267,6 +295,16 @@ static uint64_t second_trap(const uint64_t *a)
     struct machine machine;
     make_machine(&machine, a);
     return trap_on(&machine, a[3], a[4], NO_WORD, a[5]);
+}
+
+/* The hint in the result of a second trap, which is refused. Arguments as of second_trap. */
+static uint64_t refused_hint(const uint64_t *a)
+{
+    struct machine machine;
+    make_machine(&machine, a);
+    return trap_on(&machine, a[3], a[4], NO_WORD, a[5]) == RITM_ACCEPTED
+               ? NOT_SEEN
+               : ritm_get_word(&machine.trapped, RITM_TRAP_HINT);
 }
 
 /* A reply after a trap. The other arguments are its core and its kind. */
@@ -469,6 +507,8 @@ static const struct row rows[] = {
     {NAMED(RITM_NO_GUEST_VECTOR), second_trap, {NO_TRAP, 0, 0, 1, LOAD, 0}},
     {NAMED(RITM_NOTHING_WAITING), reply, {LOAD, WORD, 0, 1, RITM_REPLY_VALUE}},
     {NAMED(RITM_UNKNOWN_REPLY_KIND), reply, {SMC, 0, FIRMWARE_CALL, 1, RITM_REPLY_SUCCESS}},
+    {NAMED(RITM_UNKNOWN_REPLY_KIND), reply, {SMC, 0, FIRMWARE_CALL | UPPER_HALF, 1, RITM_REPLY_SUCCESS}},
+    {NAMED(RITM_ACCEPTED), reply, {SMC, 0, FIRMWARE_CALL | UPPER_HALF, 1, RITM_REPLY_VALUE}},
     {NAMED(RITM_NO_SUCH_REGISTER), read_gpr, {0, 32}},
     {NAMED(RITM_NO_PAGE_ABOVE), align_up, {UINT64_MAX}},
     {NAMED(RITM_NO_SYNDROME), decode, {0}},
@@ -494,6 +534,8 @@ static const struct row rows[] = {
     {NAMED(RITM_WAIT_HVC_PLATFORM), wait_code, {HVC}},
     {NAMED(RITM_WAIT_SMC_FIRMWARE), wait_code, {SMC, 0, FIRMWARE_CALL}},
     {NAMED(RITM_WAIT_SMC_PLATFORM), wait_code, {SMC}},
+    {NAMED(RITM_WAIT_HVC_FIRMWARE), wait_code, {HVC, 0, FIRMWARE_CALL | SVE_HINT}},
+    {NAMED(RITM_WAIT_SMC_FIRMWARE), wait_code, {SMC, 0, FIRMWARE_CALL | UPPER_HALF}},
 
     {NAMED(RITM_TRAP_REFUSED), trap_kind, {UNKNOWN}},
     {NAMED(RITM_TRAP_LOAD_HANDLED), trap_kind, {LOAD, WORD}},
@@ -501,6 +543,8 @@ static const struct row rows[] = {
     {NAMED(RITM_TRAP_ABORT_INJECTED), trap_kind, {LOAD, NO_WORD}},
     {NAMED(RITM_TRAP_TO_FIRMWARE), trap_kind, {HVC, 0, FIRMWARE_CALL}},
     {NAMED(RITM_TRAP_TO_PLATFORM), trap_kind, {HVC}},
+    {NAMED(RITM_TRAP_TO_FIRMWARE), trap_kind, {SMC, 0, UINT64_C(0xc400001f) | UPPER_HALF | SVE_HINT}},
+    {NAMED(RITM_TRAP_TO_PLATFORM), trap_kind, {SMC, 0, UINT64_C(0xc4000020) | UPPER_HALF | SVE_HINT}},
 
     {NAMED(RITM_REPLY_UNHANDLED), reply_kind, {UINT64_MAX, SAVED(1), SAVED(4), SAVED(17)}},
     {NAMED(RITM_REPLY_VALUE), reply_kind, {VALUE(0), 0, SAVED(4), SAVED(17)}},
@@ -540,8 +584,32 @@ static const struct row rows[] = {
     {NAMED(RITM_REGISTERS_ELR), saved_place, {RITM_CORE_WORDS + RITM_CORE_ELR}},
     {NAMED(RITM_REGISTERS_SPSR), saved_place, {RITM_CORE_WORDS + RITM_CORE_SPSR}},
     {NAMED(RITM_TRAP_KIND), trap_place, {HVC, 0, 0, RITM_TRAP_TO_PLATFORM}},
-    {NAMED(RITM_TRAP_VALUES), trap_place, {HVC, 0, 0, SAVED(0)}},
+    {NAMED(RITM_TRAP_VALUES), trap_place, {HVC, 0, 0, SAVED_IDENTIFIER}},
+    {NAMED(RITM_TRAP_VALUES + 3), trap_place, {SMC, 0, FIRMWARE_CALL | UPPER_HALF, SAVED(3)}},
     {NAMED(RITM_TRAP_VALUES + RITM_VALUES_COUNT - 1), trap_place, {HVC, 0, 0, SAVED(17)}},
+    {NAMED(RITM_TRAP_HINT), trap_place, {HVC, 0, PLATFORM_CALL | SVE_HINT, 1}},
+
+    {"the identifier of 0x184000000", FIRMWARE_CALL, identifier, {SMC, 0, FIRMWARE_CALL | UPPER_HALF}},
+    {"the identifier of 0x84010000", FIRMWARE_CALL, identifier, {HVC, 0, FIRMWARE_CALL | SVE_HINT}},
+    {"the identifier of 0x1ff010000", PLATFORM_CALL, identifier, {HVC, 0, PLATFORM_CALL | UPPER_HALF | SVE_HINT}},
+    {"the identifier of 2^64 - 1", UINT64_C(0xfffeffff), identifier, {SMC, 0, UINT64_MAX}},
+    {"the identifier of 2^31 - 1", UINT64_C(0x7fffffff), identifier, {SMC, 0, UINT64_C(0x7fffffff)}},
+    {"the identifier of a yielding call", SAVED_IDENTIFIER, identifier, {SMC, 0, SAVED(0)}},
+    {"the place of x0 in a core that calls", RITM_CORE_WORDS + RITM_CORE_X, core_place, {HVC, 0, HINTED, HINTED}},
+
+    {"the hint of 0x184000000", 0, hint, {SMC, 0, FIRMWARE_CALL | UPPER_HALF}},
+    {"the hint of 0x84010000", 1, hint, {HVC, 0, FIRMWARE_CALL | SVE_HINT}},
+    {"the hint of 0x1ff010000", 1, hint, {HVC, 0, PLATFORM_CALL | UPPER_HALF | SVE_HINT}},
+    {"the hint of 2^64 - 1", 1, hint, {SMC, 0, UINT64_MAX}},
+    {"the hint of 2^31 - 1", 0, hint, {SMC, 0, UINT64_C(0x7fffffff)}},
+    {"the hint of a yielding call", 0, hint, {SMC, 0, SAVED(0)}},
+    {"the hint of a load", 0, hint, {LOAD, WORD, HINTED}},
+    {"the hint of a store", 0, hint, {STORE, STORED, HINTED}},
+    {"the hint of an injected abort", 0, hint, {LOAD, NO_WORD, HINTED}},
+    {"the hint beside RITM_NO_SUCH_CORE", 0, refused_hint, {NO_TRAP, 0, HINTED, 8, HVC, VBAR}},
+    {"the hint beside RITM_CORE_WAITING", 0, refused_hint, {HVC, 0, HINTED, 1, HVC, VBAR}},
+    {"the hint beside RITM_UNEXPECTED_EXCEPTION_CLASS", 0, refused_hint, {NO_TRAP, 0, HINTED, 1, UNKNOWN, VBAR}},
+    {"the hint beside RITM_NO_GUEST_VECTOR", 0, refused_hint, {NO_TRAP, 0, HINTED, 1, LOAD, 0}},
 
     {NAMED(RITM_MAP_TAKEN), map_place, {1}},
     {NAMED(RITM_MAP_WORDS + RITM_MAP_KEY), map_place, {KEY(1)}},

@@ -211,13 +211,23 @@ static void load_as_from_memory(void)
  */
 
 typedef void call(uint64_t *x);
+static call *const calls[] = {call_hvc, call_hvc_immediate, call_smc, call_smc_immediate};
+
+/* What may stand in x0 beside a function identifier (Arm DEN0028 from version 1.3 on): bits of the upper half, and in a
+   fast call, with bit 31 set, the SVE hint. */
+#define UPPER_HALF (UINT64_C(1) << 32)
+#define SVE_HINT (UINT64_C(1) << 16)
+#define YIELDING_CALL UINT64_C(0x04000000)
+
+/* What xk holds before a call, but for x0 and x1: bits of both halves. */
+#define REGISTER(k) (UINT64_C(0x100000000200) + (k))
 
 /* The call gives this in x0; x1 to x3 are zero or as before, and the rest is as before. */
 static void expect_call(call *call, uint64_t function, uint64_t argument, uint64_t result, int one_value)
 {
     uint64_t x[18];
     for (size_t i = 0; i < 18; i++) {
-        x[i] = 0x200 + i;
+        x[i] = REGISTER(i);
     }
     x[0] = function;
     x[1] = argument;
@@ -225,13 +235,12 @@ static void expect_call(call *call, uint64_t function, uint64_t argument, uint64
     expect("x0", x[0], result);
     expect("x1", x[1], one_value ? 0 : argument);
     for (size_t i = 2; i < 18; i++) {
-        expect("x2 to x17", x[i], one_value && i < 4 ? 0 : 0x200 + i);
+        expect("x2 to x17", x[i], one_value && i < 4 ? 0 : REGISTER(i));
     }
 }
 
 static void make_calls(void)
 {
-    static call *const calls[] = {call_hvc, call_hvc_immediate, call_smc, call_smc_immediate};
     say("calls to the firmware and to the platform, by HVC and by SMC");
     for (size_t i = 0; i < LENGTH(calls); i++) {
         expect_call(calls[i], PSCI_VERSION, 0, 0x10001, 1);
@@ -239,7 +248,18 @@ static void make_calls(void)
         expect_call(calls[i], PSCI_CPU_ON, 7, PSCI_INVALID_PARAMETERS, 1);
         expect_call(calls[i], TEST_CALL, 0, TEST_CALL_ANSWER, 1);
         expect_call(calls[i], UINT64_C(0xc5000000), 0, UINT64_MAX, 0);
-        expect_call(calls[i], PSCI_VERSION | UINT64_C(1) << 32, 0, UINT64_MAX, 0);
+    }
+}
+
+/* The platform knows no yielding call, whose bit 16 is part of its identifier. */
+static void make_calls_by_identifier(void)
+{
+    say("calls with bits of the upper half of x0 set, and with bit 16, a fast call's hint");
+    for (size_t i = 0; i < LENGTH(calls); i++) {
+        expect_call(calls[i], PSCI_VERSION | UPPER_HALF, 0, 0x10001, 1);
+        expect_call(calls[i], PSCI_VERSION | SVE_HINT, 0, 0x10001, 1);
+        expect_call(calls[i], TEST_CALL | UPPER_HALF | SVE_HINT, 0, TEST_CALL_ANSWER, 1);
+        expect_call(calls[i], YIELDING_CALL | UPPER_HALF | SVE_HINT, 0, UINT64_MAX, 0);
     }
 }
 
@@ -518,6 +538,7 @@ void start_guest(uint64_t context_id, uint64_t core)
     access_nowhere();
     load_as_from_memory();
     make_calls();
+    make_calls_by_identifier();
     abort_by_origin();
     start_second_core();
     trap_at_once();

@@ -193,18 +193,18 @@ static void reply(uint64_t core, uint64_t kind, uint64_t value, struct line *lin
 }
 
 /* RITM's QEMU platform knows one call; two are the test's. */
-static void answer_platform(uint64_t core, const uint64_t *x, struct line *line)
+static void answer_platform(uint64_t core, const uint64_t *values, struct line *line)
 {
-    switch (x[0]) {
+    switch (values[0]) {
     case TEST_CALL:
         reply(core, RITM_REPLY_VALUE, TEST_CALL_ANSWER, line);
         break;
     case VERDICT_CALL:
-        take_verdict(x[1]);
+        take_verdict(values[1]);
         reply(core, RITM_REPLY_VALUE, 0, line);
         break;
     case QUIET_CALL:
-        quiet = x[1] != 0;
+        quiet = values[1] != 0;
         reply(core, RITM_REPLY_VALUE, 0, line);
         break;
     default:
@@ -223,20 +223,21 @@ static uint64_t cpu_on(uint64_t target, uint64_t entry_point, uint64_t context_i
     return call_firmware(PSCI_CPU_ON, target, (uint64_t)_start, 0);
 }
 
-/* Those of PSCI's calls that this guest makes. Two go on to QEMU's firmware as they are. */
-static void answer_firmware(uint64_t core, const uint64_t *x, struct line *line)
+/* Those of PSCI's calls that this guest makes. Two go on to QEMU's firmware as they are handed out. The hint does not:
+   a firmware of DEN0028's version 1.3 takes it in bit 16 again, and QEMU's knows no function identifier with it. */
+static void answer_firmware(uint64_t core, const uint64_t *values, struct line *line)
 {
     uint64_t result = PSCI_NOT_SUPPORTED;
-    switch (x[0]) {
+    switch (values[0]) {
     case PSCI_SYSTEM_OFF:
         print_line(line);
         finish();
     case PSCI_VERSION:
     case PSCI_FEATURES:
-        result = call_firmware(x[0], x[1], x[2], x[3]);
+        result = call_firmware(values[0], values[1], values[2], values[3]);
         break;
     case PSCI_CPU_ON:
-        result = cpu_on(x[1], x[2], x[3]);
+        result = cpu_on(values[1], values[2], values[3]);
         break;
     }
     reply(core, RITM_REPLY_VALUE, result, line);
@@ -304,16 +305,25 @@ static void add_rt(const struct trap *trap, struct line *line)
     add_hex(line, " ", value.words[0]);
 }
 
+/* The core's own x0, and what is handed out in its place. */
+static void add_call(uint64_t core, const struct ritm_trap_result *trapped, struct line *line)
+{
+    add_hex(line, ", x0 ", words_of(core)[RITM_CORE_X]);
+    add_hex(line, " as ", trapped->words[RITM_TRAP_VALUES]);
+    add_decimal(line, ", hint ", trapped->words[RITM_TRAP_HINT]);
+}
+
 /* Takes a trap, and does what its answer asks for. After a handled load or store that is nothing: the register is
    written, and ELR has grown. */
-static void serve(const struct trap *trap, struct line *line)
+static void serve(const struct trap *trap, const struct ritm_registers *frame, struct line *line)
 {
     struct ritm_trap_result trapped;
-    const uint64_t *x = &trapped.words[RITM_TRAP_VALUES];
+    const uint64_t *values = &trapped.words[RITM_TRAP_VALUES];
     lock();
     const uint64_t number =
         ritm_trap(&policy, &cores, trap->core, trap->esr, trap->fipa, trap->far, trap->vbar, &trapped);
     unlock();
+    compare_with_registers(frame, words_of(trap->core), &trapped);
     switch (trapped.words[RITM_TRAP_KIND]) {
     case RITM_TRAP_REFUSED:
         leave_function(trap->core, number, line);
@@ -328,12 +338,14 @@ static void serve(const struct trap *trap, struct line *line)
         write_fault_registers(trap->core, line);
         break;
     case RITM_TRAP_TO_FIRMWARE:
-        add_hex(line, ": to the firmware, x0 ", x[0]);
-        answer_firmware(trap->core, x, line);
+        add(line, ": to the firmware");
+        add_call(trap->core, &trapped, line);
+        answer_firmware(trap->core, values, line);
         break;
     case RITM_TRAP_TO_PLATFORM:
-        add_hex(line, ": to the platform, x0 ", x[0]);
-        answer_platform(trap->core, x, line);
+        add(line, ": to the platform");
+        add_call(trap->core, &trapped, line);
+        answer_platform(trap->core, values, line);
         break;
     }
 }
@@ -387,7 +399,7 @@ void handle_sync_lower(struct ritm_registers *frame, uint64_t core)
     add_trap(&trap, &line);
     expect("save", ritm_save(&cores, core, frame), RITM_ACCEPTED);
     if (!serve_own_page(&trap, &line)) {
-        serve(&trap, &line);
+        serve(&trap, frame, &line);
     }
     memcpy(frame, words_of(core), sizeof *frame);
     add_return(&trap, before, frame, &line);

@@ -22,6 +22,8 @@ uint64_t stage2_root(void);
 /* checks.c: what the run tests besides the guest's own checks. */
 void expect(const char *what, uint64_t got, uint64_t expected);
 void compare_with_instruction(const struct trap *trap, const struct ritm_registers *frame);
+void compare_with_registers(const struct ritm_registers *frame, const uint64_t *core_words,
+                            const struct ritm_trap_result *trapped);
 int is_within_limit(void);
 void take_verdict(uint64_t failures);
 void print_verdict(void);

@@ -29,6 +29,9 @@ int main(int argc, char **argv)
     }
     for (size_t kind = 0; kind < TRAP_KINDS; kind++) {
         printf("trap kind %zu: %" PRIu64 "\n", kind, outcome.trap_kinds[kind]);
+        if (kind == RITM_TRAP_TO_FIRMWARE || kind == RITM_TRAP_TO_PLATFORM) {
+            printf("trap kind %zu with the hint: %" PRIu64 "\n", kind, outcome.hinted_kinds[kind]);
+        }
     }
     printf("seed %" PRIu64 ", calls %" PRIu64 ", hash 0x%" PRIx64 "\n", seed, calls, outcome.hash);
     if (outcome.changed_beside != 0) {

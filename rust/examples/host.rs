@@ -67,6 +67,12 @@ const TEST_CALL: u64 = 0xff00_0000;
 const TEST_CALL_ANSWER: u64 = 0x1234_5678_9abc_def0;
 const UNKNOWN_CALL: u64 = 0xc500_0000;
 
+// What may stand in x0 beside a function identifier (Arm DEN0028 from version 1.3 on): bits of the
+// upper half, which mean nothing, and in a fast call the hint that the guest holds no live SVE
+// state.
+const UPPER_HALF: u64 = 0x1_0000_0000;
+const SVE_HINT: u64 = 0x1_0000;
+
 // What the filtered MMIO page takes.
 const STORE_OFFSET: u64 = 8;
 const STORE_VALUE: u64 = 0x1234_5678_9abc_def0;
@@ -177,6 +183,7 @@ impl Host {
         self.start_guest(1)?;
         self.call_firmware(0)?;
         self.call_platform(0)?;
+        self.call_by_identifier(0)?;
         self.load_words()?;
         self.store_words(0)?;
         self.expect_refused_trap(8, "a trap on a ninth core", Refusal::NoSuchCore);
@@ -219,7 +226,8 @@ impl Host {
     fn call_firmware(&mut self, core: u64) -> Result<(), Refusal> {
         self.run_guest(core, 0, PSCI_VERSION)?;
         let answer = self.trap(core, ESR_SMC, 0)?;
-        expect("PSCI_VERSION", answer, TrapAnswer::ToFirmware([PSCI_VERSION, 0, 0, 0]));
+        let values = [PSCI_VERSION, 0, 0, 0];
+        expect("PSCI_VERSION", answer, TrapAnswer::ToFirmware { values, sve_hint: false });
         println!("core {core}: SMC {PSCI_VERSION:#x}, PSCI_VERSION: to the firmware");
         let waiting = "a trap while the call waits for its reply";
         self.expect_refused_trap(core, waiting, Refusal::CoreWaiting);
@@ -236,8 +244,26 @@ impl Host {
     fn expect_platform_call(&mut self, core: u64, call: u64, what: &str) -> Result<(), Refusal> {
         self.run_guest(core, 0, call)?;
         let answer = self.trap(core, ESR_HVC, 0)?;
-        expect(what, matches!(answer, TrapAnswer::ToPlatform(values) if values[0] == call), true);
+        expect(what, matches!(answer, TrapAnswer::ToPlatform { values, .. } if values[0] == call), true);
         println!("core {core}: HVC {call:#x}, {what}: to the platform");
+        Ok(())
+    }
+
+    /// A call goes to its recipient by its function identifier, whatever else stands in x0.
+    fn call_by_identifier(&mut self, core: u64) -> Result<(), Refusal> {
+        let calls = [
+            ("SMC", ESR_SMC, PSCI_VERSION | UPPER_HALF, ("firmware", PSCI_VERSION, 0), PSCI_1_1),
+            ("HVC", ESR_HVC, PSCI_VERSION | SVE_HINT, ("firmware", PSCI_VERSION, 1), PSCI_1_1),
+            ("HVC", ESR_HVC, TEST_CALL | UPPER_HALF | SVE_HINT, ("platform", TEST_CALL, 1), TEST_CALL_ANSWER),
+        ];
+        for (conduit, esr, x0, expected, value) in calls {
+            self.run_guest(core, 0, x0)?;
+            let answer = self.trap(core, esr, 0)?;
+            expect("a function identifier and an SVE hint", handed_out(&answer), Some(expected));
+            let (recipient, identifier, hint) = expected;
+            println!("core {core}: {conduit} {x0:#x}: to the {recipient} as {identifier:#x}, SVE hint {hint}");
+            self.reply(core, 1, &HvcReply::Value(value), value)?;
+        }
         Ok(())
     }
 
@@ -282,6 +308,15 @@ impl Host {
             el1.elr, el1.spsr, el1.far, el1.esr
         );
         Ok(())
+    }
+}
+
+/// The recipient of a forwarded call, its function identifier and its SVE hint.
+fn handed_out(answer: &TrapAnswer) -> Option<(&'static str, u64, u64)> {
+    match answer {
+        TrapAnswer::ToFirmware { values, sve_hint } => Some(("firmware", values[0], u64::from(*sve_hint))),
+        TrapAnswer::ToPlatform { values, sve_hint } => Some(("platform", values[0], u64::from(*sve_hint))),
+        _ => None,
     }
 }
 

@@ -14,6 +14,10 @@ const FAULT_REGISTERS: usize = 33;
 const WAIT: usize = 37;
 const COUNTER: usize = MAX_CORES as usize * CORE_WORDS;
 
+const TRAP_KIND: usize = 0;
+const TRAP_VALUES: usize = 1;
+const TRAP_HINT: usize = 19;
+
 /// A core's registers as the hardware saves them.
 #[derive(Clone, Copy, Debug, Default, Eq, PartialEq)]
 pub struct Registers {
@@ -61,10 +65,20 @@ pub enum TrapAnswer {
     /// The core goes on at the guest's vector, with the EL1 registers of
     /// [`Cores::fault_registers`].
     AbortInjected,
-    /// The call is the firmware's to answer, with x0 to x3; the core waits for the reply.
-    ToFirmware([u64; 4]),
-    /// The call is the platform's to answer, with x0 to x17; the core waits for the reply.
-    ToPlatform([u64; 18]),
+    /// The call is the firmware's to answer; the core waits for the reply.
+    ToFirmware {
+        /// The function identifier, and x1 to x3.
+        values: [u64; 4],
+        /// Whether the guest says that it holds no live SVE state.
+        sve_hint: bool,
+    },
+    /// The call is the platform's to answer; the core waits for the reply.
+    ToPlatform {
+        /// The function identifier, and x1 to x17.
+        values: [u64; 18],
+        /// Whether the guest says that it holds no live SVE state.
+        sve_hint: bool,
+    },
 }
 
 /// How a call left the guest: the SMCCC's conduit.
@@ -130,10 +144,11 @@ impl HvcReply {
 /// let policy = Policy::new();
 /// let mut cores = Cores::new();
 /// let mut guest = Registers { elr: 0x4020_0000, ..Registers::default() };
-/// guest.x[0] = 0x8400_0000;
+/// guest.x[0] = 0x8401_0000; // PSCI_VERSION, with the hint of SMCCC 1.3
 /// cores.save(0, &guest)?;
 /// let smc = TrapRegisters { esr: 0x17 << 26, ..TrapRegisters::default() };
-/// assert_eq!(cores.trap(0, &policy, &smc), Ok(TrapAnswer::ToFirmware([0x8400_0000, 0, 0, 0])));
+/// let call = TrapAnswer::ToFirmware { values: [0x8400_0000, 0, 0, 0], sve_hint: true };
+/// assert_eq!(cores.trap(0, &policy, &smc), Ok(call));
 /// assert_eq!(cores.trap(0, &policy, &smc), Err(Refusal::CoreWaiting));
 /// cores.reply(0, &HvcReply::Value(0x1_0001))?;
 /// assert_eq!(cores.registers(0)?.elr, 0x4020_0004);
@@ -177,7 +192,9 @@ impl Cores {
         accepted(ffi::ritm_save(&mut self.0, core, &saved))
     }
 
-    /// Takes a core's trap.
+    /// Takes a core's trap. A call goes to its recipient by its function identifier (Arm DEN0028 from version 1.3 on),
+    /// which is handed out in place of x0: the low 32 bits of x0, with bit 16 cleared in a fast call, one with bit 31
+    /// set. That bit is the hint; a yielding call has none.
     ///
     /// # Errors
     ///
@@ -280,12 +297,13 @@ fn core_start(core: u64) -> Result<usize, Refusal> {
 
 /// The answer that stands in an accepted trap's result.
 fn trap_answer(result: &ffi::TrapResult) -> TrapAnswer {
-    match result.get(0) {
+    let sve_hint = result.get(TRAP_HINT) == 1;
+    match result.get(TRAP_KIND) {
         1 => TrapAnswer::LoadHandled,
         2 => TrapAnswer::StoreHandled,
         3 => TrapAnswer::AbortInjected,
-        4 => TrapAnswer::ToFirmware(result.get_all(1)),
-        5 => TrapAnswer::ToPlatform(result.get_all(1)),
+        4 => TrapAnswer::ToFirmware { values: result.get_all(TRAP_VALUES), sve_hint },
+        5 => TrapAnswer::ToPlatform { values: result.get_all(TRAP_VALUES), sve_hint },
         kind => unreachable!("the archive gives no trap of kind {kind}"),
     }
 }

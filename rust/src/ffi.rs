@@ -111,7 +111,7 @@ buffers! {
     SuspendMap, MAP_SIZE = 256, "a suspend map";
     Registers, REGISTERS_SIZE = 264, "the registers of a save";
     Values, VALUES_SIZE = 144, "the values of a reply";
-    TrapResult, TRAP_RESULT_SIZE = 152, "a trap's result";
+    TrapResult, TRAP_RESULT_SIZE = 160, "a trap's result";
     FindResult, FIND_RESULT_SIZE = 24, "the result of a search for a region";
     EntryResult, ENTRY_RESULT_SIZE = 24, "the result of a look-up in the suspend map";
     AccessResult, ACCESS_RESULT_SIZE = 48, "a decoded access";

@@ -45,6 +45,9 @@ mod tests {
     /// The SPSR of a guest at EL1, on its own stack.
     const EL1H: u64 = 5;
 
+    /// A register with bits in both halves.
+    const WIDE: u64 = 0x1234_5678_9ABC_DEF0;
+
     #[test]
     fn refusals_are_the_numbers_from_1_to_22() {
         for number in 1..=22 {
@@ -98,11 +101,44 @@ mod tests {
         assert_eq!(cores.registers(8), Err(Refusal::NoSuchCore));
         let hvc = TrapRegisters { esr: 0x16 << 26, ..TrapRegisters::default() };
         let values = core::array::from_fn(|i| i as u64);
-        assert_eq!(cores.trap(7, &Policy::new(), &hvc), Ok(TrapAnswer::ToPlatform(values)));
+        assert_eq!(cores.trap(7, &Policy::new(), &hvc), Ok(TrapAnswer::ToPlatform { values, sve_hint: false }));
         assert_eq!(cores.wait(7), Ok(Wait::Call(Conduit::Hvc, Recipient::Platform)));
         cores.reply(7, &HvcReply::Error(-3)).unwrap();
         assert_eq!(cores.read_gpr(7, 0), Ok(u64::MAX - 2));
         assert_eq!(cores.wait(7), Ok(Wait::Nothing));
+    }
+
+    /// What a guest's SMC comes to on core 0, with this in x0 and [`WIDE`] in every other register.
+    fn smc(cores: &mut Cores, x0: u64) -> TrapAnswer {
+        let mut guest = Registers { x: [WIDE; 31], ..Registers::default() };
+        guest.x[0] = x0;
+        cores.save(0, &guest).unwrap();
+        let trap = TrapRegisters { esr: 0x17 << 26, ..TrapRegisters::default() };
+        cores.trap(0, &Policy::new(), &trap).unwrap()
+    }
+
+    #[test]
+    fn the_firmware_is_called_by_the_identifier() {
+        for (x0, sve_hint) in [(0x1_8400_0000, false), (0x8401_0000, true), (0xFFFF_FFFF_8401_0000, true)] {
+            let mut cores = Cores::new();
+            let values = [0x8400_0000, WIDE, WIDE, WIDE];
+            assert_eq!(smc(&mut cores, x0), TrapAnswer::ToFirmware { values, sve_hint });
+            assert_eq!(cores.read_gpr(0, 0), Ok(x0));
+            assert_eq!(cores.wait(0), Ok(Wait::Call(Conduit::Smc, Recipient::Firmware)));
+            assert_eq!(cores.reply(0, &HvcReply::Success([0; 4])), Err(Refusal::UnknownReplyKind));
+        }
+    }
+
+    #[test]
+    fn bit_16_is_a_hint_in_a_fast_call_alone() {
+        for (x0, id, sve_hint) in [(0x1_FF01_0000, 0xFF00_0000, true), (0x1_0401_0000, 0x401_0000, false)] {
+            let mut cores = Cores::new();
+            let mut values = [WIDE; 18];
+            values[0] = id;
+            assert_eq!(smc(&mut cores, x0), TrapAnswer::ToPlatform { values, sve_hint });
+            assert_eq!(cores.read_gpr(0, 0), Ok(x0));
+            assert_eq!(cores.wait(0), Ok(Wait::Call(Conduit::Smc, Recipient::Platform)));
+        }
     }
 
     #[test]

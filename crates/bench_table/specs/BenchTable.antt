@@ -1,5 +1,5 @@
--- The bench table of document 01: its P rows, each once, in its order. Each comment is a row: what is given, and what is found. The states
--- are built from fresh by the calls that a row names. Assumes nothing.
+-- The bench table of document 01: its P rows, each once, in its order, as document 02's requests leave them, and the rows that these add.
+-- Each comment is a row: what is given, and what is found. The states are built from fresh by the calls that a row names. Assumes nothing.
 use Prim.Native.Nat.{ℕ, zero, suc, _+_, _-_, _^_}
 use mathlib.Core.Bool.{Bool, true, false, _&&_}
 use mathlib.Core.List.{List, [], _∷_, _++_}
@@ -90,6 +90,12 @@ abort esr vbar =
 abbrev pub call : ℕ → ℕ → ℕ
 call esr x0 = trapKind (trapped x0 (trapAt esr 0) .result .answer)
 
+-- what is handed out by an HVC: which answer it is, the first two values, the hint; and then x0 of the core, which stays as it was
+abbrev pub handOut : ℕ → List ℕ
+handOut x0 =
+    let step = trapped x0 (trapAt hvc 0) in
+    trapKind (step .result .answer) ∷ (take 2 (step .result .values) ++ (step .result .«sve_hint» ∷ take 1 (core0 (step .cores) .x)))
+
 -- after the reply to that call, of this kind and with the value 7: the number of the reply's answer, ELR, x0 to x4
 abbrev pub reply : ℕ → ℕ → ℕ → List ℕ
 reply esr x0 kind =
@@ -127,6 +133,16 @@ benchTable =
     ∷ row (abort 0x93C58000 0x80000) (3 ∷ 0x97C58000 ∷ 0x80200 ∷ 5 ∷ [])
     -- "SMC, x0 0xC4000003, reply kind 1 value 7": "x0 7, x1 to x3 0, x4 kept, ELR + 4"
     ∷ row (call smc 0xC4000003 ∷ reply smc 0xC4000003 1) (4 ∷ 0 ∷ 0x1004 ∷ 7 ∷ 0 ∷ 0 ∷ 0 ∷ 0xC4000003 ∷ [])
-    -- "HVC, x0 0x184000000": "handed to the platform"
-    ∷ row (call hvc 0x184000000 ∷ []) (5 ∷ [])
+    -- "HVC, x0 0x184000000", by document 02: to the firmware, first value 0x84000000, hint 0
+    ∷ row (handOut 0x184000000) (4 ∷ 0x84000000 ∷ 0x184000000 ∷ 0 ∷ 0x184000000 ∷ [])
+    -- added by document 02: to the firmware with the hint, of either register width
+    ∷ row (handOut 0x84010000 ++ handOut 0xC401001F) (4 ∷ 0x84000000 ∷ 0x84010000 ∷ 1 ∷ 0x84010000 ∷ 4 ∷ 0xC400001F ∷ 0xC401001F ∷ 1 ∷ 0xC401001F ∷ [])
+    -- past the last of the firmware's identifiers, without the hint and with it: to the platform
+    ∷ row (handOut 0x84000020 ++ handOut 0x84010020) (5 ∷ 0x84000020 ∷ 0x84000020 ∷ 0 ∷ 0x84000020 ∷ 5 ∷ 0x84000020 ∷ 0x84010020 ∷ 1 ∷ 0x84010020 ∷ [])
+    -- a yielding call keeps bit 16
+    ∷ row (handOut 0x04010000) (5 ∷ 0x04010000 ∷ 0x04010000 ∷ 0 ∷ 0x04010000 ∷ [])
+    -- an upper half and the hint, to the platform
+    ∷ row (handOut 0x1FF010000) (5 ∷ 0xFF000000 ∷ 0x1FF010000 ∷ 1 ∷ 0x1FF010000 ∷ [])
+    -- a core that called with 0x184000000 waits for the firmware, whose reply of kind 2 is refused: 15
+    ∷ row (take 1 (reply hvc 0x184000000 2)) (15 ∷ [])
     ∷ []

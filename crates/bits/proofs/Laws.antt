@@ -8,7 +8,7 @@ use native.Mathlib.Omega.{arith}
 use borrow.Author.Tests.{ne-eqb}
 use lib.Bits.{bitAnd, bitOr, and-mask, and-high, and-block, or-block, or-zero-r, or-shifted-r}
 use lib.Dec.{eqb, lit<}
-use lib.Pow.{high-ones, ones-split, pow-pos, pow-add, split, high, shl-lt, shr-lt, shr-mod, mod-mod-pow}
+use lib.Pow.{high-ones, ones-split, pow-pos, pow-add, split, high, shl-lt, shr-lt, shr-mod, mod-mod-pow, mod-pow-add}
 use lib.Pow as pow
 use Rattle.bits.specs.Bits.{bitsAt, bitAt, lowBits, withBits}
 
@@ -30,6 +30,19 @@ low x n = and-mask x n
 pub low-fits : (n x : ℕ) → lowBits n x < 2 ^ n
 unfolding lowBits
 low-fits n x = mod-lt x (pow-pos n)
+
+-- a field of the low `w` bits that lies within them
+pub low-field : (w x k n : ℕ) → n + k ≤ w → bitsAt (lowBits w x) k n ≡ bitsAt x k n
+unfolding bitsAt lowBits
+low-field w x k n h =
+    let whole : w ≡ w - (n + k) + n + k = omega (arith, h) in
+    ap (λ (v : ℕ). x % 2 ^ v / 2 ^ k % 2 ^ n) whole
+    ∙ ap (λ (y : ℕ). y % 2 ^ n) (pow.field x (w - (n + k) + n) k)
+    ∙ mod-mod-pow (x / 2 ^ k) (w - (n + k)) n
+
+pub low-bit : (w x k : ℕ) → 1 + k ≤ w → bitAt (lowBits w x) k ≡ bitAt x k
+unfolding bitAt
+low-bit w x k h = ap (λ (b : ℕ). eqb b 1) (low-field w x k 1 h)
 
 flag : (b m : ℕ) → b < 2 → 0 < m → not (eqb (b * m) 0) ≡ eqb b 1
 flag zero m h p = ap (λ (n : ℕ). not (eqb n 0)) (zero-mul m)
@@ -89,6 +102,11 @@ low-cleared w k x h f =
     ap (bitAnd x) ones
     ∙ bits-cleared (w - k) k 0 x (rw (sym whole) f)
     ∙ omega (arith, split x k, ap (λ (v : ℕ). x / 2 ^ v * 2 ^ v) (add-zero k))
+
+-- to put in the bits that are there changes nothing
+pub bits-kept : (x k n : ℕ) → withBits x k n (bitsAt x k n) ≡ x
+unfolding withBits bitsAt
+bits-kept x k n = omega (arith, split x (n + k), mod-pow-add x n k)
 
 -- What `x` with `v` as its `n` bits from bit `k` on has there, below them and above them.
 module _ (x k n v : ℕ) (f : v < 2 ^ n) where

@@ -1,6 +1,6 @@
 -- What the calls on a core answer, with document 01's numbers. Assumes nothing.
 use Prim.Native.Nat.{ℕ}
-use mathlib.Core.List.{List, _∷_}
+use mathlib.Core.List.{List, [], _∷_, _++_}
 use mathlib.Core.Bool.{Bool, true, false}
 use lib.ListN.{replicate}
 use Rattle.memory_access.specs.declared.MemoryAccessKind.the-variants.{Read, Write}
@@ -57,15 +57,15 @@ isForwarded (Refused error) = false
 abbrev pub forwardedLength : ℕ
 forwardedLength = 18
 
--- "every other result field 0": the result of an answer that has no values
+-- "every other result field 0": the result of an answer that has no values and no hint
 abbrev pub withoutValues : TrapAnswer → TrapResult
-withoutValues answer = record { answer = answer; values = replicate forwardedLength 0 }
+withoutValues answer = record { answer = answer; values = replicate forwardedLength 0; «sve_hint» = 0 }
 
--- the words of a result: the kind of the answer, and the values
+-- the words of a result: the kind of the answer, the values, and the SVE hint
 abbrev pub resultWords : TrapResult → List ℕ
-resultWords result = trapKind (result .answer) ∷ result .values
+resultWords result = trapKind (result .answer) ∷ (result .values ++ (result .«sve_hint» ∷ []))
 
--- a step whose answer has no values
+-- a step whose answer has no values and no hint
 abbrev pub answered : TrapAnswer → Core → ℕ → TrapStep
 answered answer core counter = record { result = withoutValues answer; core = core; counter = counter }
 

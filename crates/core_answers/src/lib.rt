@@ -40,10 +40,12 @@ pub enum TrapAnswer {
 // The most registers that a forwarded call hands out, and so the values of a trap's result.
 pub const FORWARDED_VALUES: usize = 18;
 
-// What a trap gives its host: the answer, and the values of a forwarded call, zeros in every other answer.
+// What a trap gives its host: the answer, and the values and the SVE hint of a forwarded call, zeros in every other answer.
 pub struct TrapResult {
     pub answer: TrapAnswer,
     pub values: [u64; FORWARDED_VALUES],
+    // 1 where the caller says that it holds no live SVE state, else 0.
+    pub sve_hint: u64,
 }
 
 // What one core's trap gives, and the core and the counter then.
@@ -124,19 +126,20 @@ impl TrapAnswer {
         }
     }
 
-    // The result of a trap whose answer has no values.
+    // The result of a trap whose answer has no values and no hint.
     pub fn without_values(self) -> TrapResult
         ensures { λ r. ⌜ r ≡ withoutValues self ⌝ }
     {
         TrapResult {
             answer: self,
             values: [0u64; FORWARDED_VALUES],
+            sve_hint: 0,
         }
     }
 }
 
 impl TrapStep {
-    // A step whose answer has no values.
+    // A step whose answer has no values and no hint.
     pub fn answered(answer: TrapAnswer, core: Core, counter: u64) -> Self
         ensures { λ r. ⌜ r ≡ answered answer core counter ⌝ }
     {

@@ -1,3 +1,4 @@
 -- Laws that the proofs of this crate and of those above cite.
 pub mod Laws
+pub mod FunctionId
 pub mod Opened

@@ -4,7 +4,8 @@ use mathlib.Core.Bool.{Bool, true, false, cond, _&&_, _||_}
 use mathlib.Core.List.{List, _++_}
 use lib.Dec.{eqb, leb}
 use lib.IntN.{ℤ}
-use lib.ListN.{take, getD, replicate}
+use lib.ListN.{take, getD, set, replicate}
+use Rattle.bits.specs.Bits.{bitsAt, bitAt, lowBits, withBits}
 use Rattle.exceptions.specs.declared.Core.{Core}
 use Rattle.exceptions.specs.declared.Conduit.{Conduit}
 use Rattle.exceptions.specs.declared.Conduit.the-variants.{Hvc, Smc}
@@ -23,6 +24,7 @@ use Rattle.hvc_response.specs.declared.HvcResultKind.{HvcResultKind}
 use Rattle.hvc_response.specs.declared.HvcResultKind.the-variants as kind
 use Rattle.hvc_response.specs.Response.{response, resultOfKind, withFirst}
 use Rattle.forwarded_call.specs.declared.ForwardedCall.{ForwardedCall}
+use Rattle.forwarded_call.specs.declared.GuestCall.{GuestCall}
 use Rattle.forwarded_call.specs.declared.HvcReply.{HvcReply}
 use Rattle.forwarded_call.specs.declared.ReplyDecision.{ReplyDecision}
 use Rattle.forwarded_call.specs.declared.ReplyDecision.the-variants.{Taken, Refused}
@@ -31,10 +33,31 @@ use Rattle.forwarded_call.specs.declared.ReplyDecision.the-variants.{Tak
 abbrev pub between : ℕ → ℕ → ℕ → Bool
 between low high n = leb low n && leb n high
 
--- "x0 from 0x84000000 to 0x8400001F, or 0xC4000000 to 0xC400001F, compared over all 64 bits" is for the firmware, "any other x0" for the
+-- W0: "the low 32 bits of x0", in which DEN0028, from version 1.3 on, passes a call's function identifier
+abbrev pub w0 : ℕ → ℕ
+w0 x0 = lowBits 32 x0
+
+-- the call type: "a fast call (bit 31 set)", else a yielding one
+abbrev pub isFastCall : ℕ → Bool
+isFastCall x0 = bitAt (w0 x0) 31
+
+-- the function identifier, document 02's function number: W0, "with bit 16 cleared in a fast call". (DEN0028's own function number is the
+-- identifier's bits 15:0.)
+unfoldable pub functionId : ℕ → ℕ
+functionId x0 = cond (isFastCall x0) (withBits (w0 x0) 16 1 0) (w0 x0)
+
+-- the SVE hint: "In a fast call .. bit 16 is a hint that the guest holds no live SVE state"; "0 in other calls"
+unfoldable pub sveHint : ℕ → ℕ
+sveHint x0 = cond (isFastCall x0) (bitsAt (w0 x0) 16 1) 0
+
+-- an identifier "from 0x84000000 to 0x8400001F, or 0xC4000000 to 0xC400001F", a PSCI function's, is for the firmware, "any other" for the
 -- platform
 unfoldable pub recipientOf : ℕ → Recipient
-recipientOf x0 = cond (between 0x84000000 0x8400001F x0 || between 0xC4000000 0xC400001F x0) Firmware Platform
+recipientOf id = cond (between 0x84000000 0x8400001F id || between 0xC4000000 0xC400001F id) Firmware Platform
+
+-- what x0 says of a call
+unfoldable pub guestCall : ℕ → GuestCall
+guestCall x0 = record { «function_id» = functionId x0; «sve_hint» = sveHint x0; recipient = recipientOf (functionId x0) }
 
 -- how many registers are handed out: "x0 to x3 to the firmware", "x0 to x17 to the platform"
 abbrev pub registersFor : Recipient → ℕ
@@ -42,12 +65,20 @@ registersFor Firmware = 4
 registersFor Platform = 18
 
 -- the first registers, and zeros past them
-unfoldable pub forwardedValues : List ℕ → ℕ → List ℕ
-forwardedValues x n = take n x ++ replicate (forwardedLength - n) 0
+unfoldable pub firstRegisters : List ℕ → ℕ → List ℕ
+firstRegisters x n = take n x ++ replicate (forwardedLength - n) 0
 
--- what a forwarded call gives its recipient (document 01: a hand-out)
-abbrev pub forwardedResult : Recipient → List ℕ → TrapResult
-forwardedResult recipient x = record { answer = Forwarded recipient; values = forwardedValues x (registersFor recipient) }
+-- the values of a call: "hand out that number in place of x0", the other registers as they stand
+abbrev pub forwardedValues : ℕ → List ℕ → ℕ → List ℕ
+forwardedValues id x n = firstRegisters (set x 0 id) n
+
+-- what a forwarded call gives its recipient (document 01: a hand-out), "plus the hint"
+abbrev pub forwardedResult : GuestCall → List ℕ → TrapResult
+forwardedResult call x = record {
+  answer = Forwarded (call .recipient);
+  values = forwardedValues (call .«function_id») x (registersFor (call .recipient));
+  «sve_hint» = call .«sve_hint»;
+}
 
 -- the core with another wait
 unfoldable pub withWait : Core → Wait → Core
@@ -56,8 +87,8 @@ withWait core wait = record { x = core .x; elr = core .elr; spsr = core .spsr; e
 -- a forwarded call: "The core then waits and nothing else changes yet"
 unfoldable pub forwardCall : Core → Conduit → ForwardedCall
 forwardCall core conduit =
-    let recipient = recipientOf (getD (core .x) 0 0) in
-    record { result = forwardedResult recipient (core .x); core = withWait core (Call conduit recipient) }
+    let call = guestCall (getD (core .x) 0 0) in
+    record { result = forwardedResult call (core .x); core = withWait core (Call conduit (call .recipient)) }
 
 -- a core waits
 abbrev pub waits : Wait → Bool

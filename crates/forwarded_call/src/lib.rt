@@ -1,7 +1,7 @@
 // RITM's src/hypervisor.rs, its HVC and SMC calls: each is handed out to its recipient, whose reply the core then takes.
 ghost use mathlib.Core.Path.{_≡_};
 ghost use Prim.Native.Nat.{_≤_};
-ghost use Rattle.forwarded_call.specs.ForwardedCall.{recipientOf, registersFor, forwardedValues, withWait, forwardCall, mayReply, takenBy, decideReply, resumedElr, resumed, replyCore};
+ghost use Rattle.forwarded_call.specs.ForwardedCall.{isFastCall, functionId, sveHint, recipientOf, guestCall, registersFor, firstRegisters, withWait, forwardCall, mayReply, takenBy, decideReply, resumedElr, resumed, replyCore};
 use core_answers::CoreAnswer;
 use core_answers::CoreError;
 use core_answers::CoreStep;
@@ -15,6 +15,15 @@ use exceptions::Wait;
 use hvc_response::HvcResult;
 use hvc_response::HvcResultKind;
 use hvc_response::REPLY_VALUES;
+
+// What x0 says of a guest's call, by DEN0028 from version 1.3 on.
+pub struct GuestCall {
+    // Document 02's function number.
+    pub function_id: u64,
+    // 1 where the caller says that it holds no live SVE state, else 0.
+    pub sve_hint: u64,
+    pub recipient: Recipient,
+}
 
 // A guest's call that is its recipient's to answer (document 01: a hand-out), and the core then.
 pub struct ForwardedCall {
@@ -35,15 +44,67 @@ pub enum ReplyDecision {
     Refused(CoreError),
 }
 
-// Hands the call out: the core waits for its recipient's reply.
+// W0, the low 32 bits of x0, holds the function identifier. Its bit 31 is set in a fast call and clear in a yielding one; bit 16 of a fast call
+// is the SVE hint.
+const W0: u64 = 0xFFFF_FFFF;
+
+const FAST_CALL: u64 = 1 << 31;
+
+const SVE_HINT: u64 = 1 << 16;
+
+impl GuestCall {
+    // Every x0 is a call's.
+    pub fn from_x0(x0: u64) -> Self
+        ensures { λ r. ⌜ r ≡ guestCall x0 ⌝ }
+    {
+        let function_id = function_id(x0);
+        GuestCall {
+            function_id,
+            sve_hint: sve_hint(x0),
+            recipient: recipient_of(function_id),
+        }
+    }
+}
+
+fn is_fast_call(x0: u64) -> bool
+    ensures { λ r. ⌜ r ≡ isFastCall x0 ⌝ }
+{
+    x0 & FAST_CALL != 0
+}
+
+// The function identifier, without the hint of a fast call.
+fn function_id(x0: u64) -> u64
+    ensures { λ r. ⌜ r ≡ functionId x0 ⌝ }
+{
+    let w0 = x0 & W0;
+    if !is_fast_call(x0) {
+        return w0;
+    }
+    w0 & !SVE_HINT
+}
+
+// The hint of a fast call, and 0 in a yielding one.
+fn sve_hint(x0: u64) -> u64
+    ensures { λ r. ⌜ r ≡ sveHint x0 ⌝ }
+{
+    if !is_fast_call(x0) {
+        return 0;
+    }
+    (x0 >> 16) & 1
+}
+
+// Hands the call out: the core waits for its recipient's reply, and its own x0 is as it was.
 pub fn forward_call(core: Core, conduit: Conduit) -> ForwardedCall
     ensures { λ r. ⌜ r ≡ forwardCall core conduit ⌝ }
 {
-    let x = core.x;
-    let recipient = recipient_of(x[0]);
+    let mut x = core.x;
+    let call = GuestCall::from_x0(x[0]);
+    let recipient = call.recipient;
+    x[0] = call.function_id;
     let result = TrapResult {
         answer: TrapAnswer::Forwarded(recipient),
         values: first_registers(x, registers_for(recipient)),
+        sve_hint: call.sve_hint,
     };
     ForwardedCall {
         result,
@@ -52,7 +113,7 @@ pub fn forward_call(core: Core, conduit: Conduit) -> ForwardedCall
 }
 
 // The firmware answers PSCI calls, of either register width, and the platform all others.
-pub fn recipient_of(function_id: u64) -> Recipient
+fn recipient_of(function_id: u64) -> Recipient
     ensures { λ r. ⌜ r ≡ recipientOf «function_id» ⌝ }
 {
     match function_id {
@@ -74,7 +135,7 @@ pub fn registers_for(recipient: Recipient) -> usize
 // The first registers, and zeros past them.
 fn first_registers(x: [u64; 31], count: usize) -> [u64; FORWARDED_VALUES]
     requires { ⌜ count ≤ 18 ⌝ }
-    ensures { λ r. ⌜ r ≡ forwardedValues x count ⌝ }
+    ensures { λ r. ⌜ r ≡ firstRegisters x count ⌝ }
 {
     let mut values = [0u64; FORWARDED_VALUES];
     let mut index: usize = 0;

@@ -21,7 +21,8 @@ use Rattle.exceptions.specs.Registers.{freshCore, advancePc, withRegisters, wri
 use Rattle.exceptions.specs.declared.Recipient.{Recipient}
 use Rattle.exceptions.specs.declared.Recipient.the-variants.{Firmware, Platform}
 use Rattle.exceptions.proofs.Laws.{write-length}
-use Rattle.forwarded_call.specs.ForwardedCall.{registersFor, forwardedValues, forwardedResult}
+use Rattle.forwarded_call.specs.declared.GuestCall.{GuestCall}
+use Rattle.forwarded_call.specs.ForwardedCall.{registersFor, firstRegisters, forwardedResult}
 use Rattle.lent_cores.specs.Layout.{waitByCode, waitNumber, coreAt, withCore, coresAt, coreLength, waitWord, waitCodes, elrWord}
 use Rattle.lent_cores.proofs.Records.{core-of, no-core, restWords, length-core}
 use Rattle.core_answers.specs.declared.TrapResult.{TrapResult}
@@ -57,46 +58,54 @@ take-each f k n zero h = refl
 take-each f k zero (suc m) h = absurd (omega arith)
 take-each f k (suc n) (suc m) h = ap (_∷_ (f k)) (take-each f (suc k) n m (omega arith))
 
--- The registers of a core that are handed out, zeros past them.
-module _ (b : List ℕ) (i : ℕ) (recipient : Recipient) where
+-- The values of a call that is handed out: its function identifier, then registers of the core, zeros past them.
+module _ (b : List ℕ) (i : ℕ) (call : GuestCall) where
   abbrev count : ℕ
-  count = registersFor recipient
+  count = registersFor (call .recipient)
 
-  count-fits : count ≤ forwardedLength
-  count-fits = go recipient
+  count-fits : (0 < count) × (count ≤ forwardedLength)
+  count-fits = go (call .recipient)
     where
-      go : (r : Recipient) → registersFor r ≤ forwardedLength
-      go Firmware = omega arith
-      go Platform = omega arith
+      go : (r : Recipient) → (0 < registersFor r) × (registersFor r ≤ forwardedLength)
+      go Firmware = (omega arith, omega arith)
+      go Platform = (omega arith, omega arith)
 
-  abbrev word : ℕ → ℕ
-  word j = cond (ltb 7 i) 0 (wordAt b (coreLength * i + j))
+  abbrev value : ℕ → ℕ
+  value zero = call .«function_id»
+  value (suc j) = cond (ltb 7 i) 0 (wordAt b (coreLength * i + suc j))
 
   abbrev pub handedOut : TrapResult
-  handedOut = forwardedResult recipient (coreOf (coresAt b) i .x)
+  handedOut = forwardedResult call (coreOf (coresAt b) i .x)
 
-  values-words : handedOut .values ≡ each word 0 count ++ replicate (forwardedLength - count) 0
-  unfolding forwardedValues
+  values-words : handedOut .values ≡ each value 0 count ++ replicate (forwardedLength - count) 0
+  unfolding firstRegisters
   values-words =
       ap (λ (l : List ℕ). l ++ replicate (forwardedLength - count) 0)
-      (ap (take count) (core-x b i) ∙ take-each word 0 31 count (omega (arith, count-fits)))
+      (ap (λ (x : List ℕ). take count (set x 0 (call .«function_id»))) (core-x b i) ∙ take-each value 0 31 count (omega (arith, count-fits .1)))
 
   pub length-values : length (handedOut .values) ≡ forwardedLength
   length-values =
       ap length values-words
-      ∙ length-append (each word 0 count) (replicate (forwardedLength - count) 0)
-      ∙ omega (arith, count-fits, length-each word 0 count, length-replicate {A = ℕ} (forwardedLength - count) 0)
+      ∙ length-append (each value 0 count) (replicate (forwardedLength - count) 0)
+      ∙ omega (arith, count-fits .1, length-each value 0 count, length-replicate {A = ℕ} (forwardedLength - count) 0)
 
-  -- one that is a register, and one past them
-  pub value-within : (k : ℕ) → k < count → getD (handedOut .values) k 0 ≡ word k
-  value-within k h =
+  value-at : (k : ℕ) → k < count → getD (handedOut .values) k 0 ≡ value k
+  value-at k h =
       ap (λ (l : List ℕ). getD l k 0) values-words
-      ∙ List·getD-append (each word 0 count) (replicate (forwardedLength - count) 0) 0 k (omega (arith, length-each word 0 count))
-      ∙ getD-each word 0 count k 0 h
-      ∙ ap word (zero-add k)
+      ∙ List·getD-append (each value 0 count) (replicate (forwardedLength - count) 0) 0 k (omega (arith, length-each value 0 count))
+      ∙ getD-each value 0 count k 0 h
+      ∙ ap value (zero-add k)
+
+  -- the first, one that is a register, and one past them
+  pub value-first : getD (handedOut .values) 0 0 ≡ call .«function_id»
+  value-first = value-at 0 (count-fits .0)
+
+  pub value-within : (k : ℕ) → (k ≡ 0 → ⊥) → k < count → getD (handedOut .values) k 0 ≡ cond (ltb 7 i) 0 (wordAt b (coreLength * i + k))
+  value-within zero n h = absurd (n refl)
+  value-within (suc k) n h = value-at (suc k) h
 
   pub value-past : (k : ℕ) → count ≤ k → getD (handedOut .values) k 0 ≡ 0
-  value-past k h = ap (λ (l : List ℕ). getD l k 0) values-words ∙ past (each word 0 count) (forwardedLength - count) k (omega (arith, length-each word 0 count))
+  value-past k h = ap (λ (l : List ℕ). getD l k 0) values-words ∙ past (each value 0 count) (forwardedLength - count) k (omega (arith, length-each value 0 count))
     where
       zeros : (n k : ℕ) → getD (replicate {A = ℕ} n 0) k 0 ≡ 0
       zeros zero k = refl

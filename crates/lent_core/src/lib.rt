@@ -16,19 +16,21 @@ use core_answers::TrapAnswer;
 use exceptions::FaultRegisters;
 use exceptions::GprRead;
 use exceptions::GprWrite;
-use exceptions::Recipient;
 use exceptions::Wait;
+use forwarded_call::GuestCall;
 use lent_cores::CORE_WORDS;
 use lent_cores::CORES_SIZE;
 use lent_cores::ELR_EL1_WORD;
 use lent_cores::ELR_WORD;
 use lent_cores::ESR_EL1_WORD;
 use lent_cores::FAR_EL1_WORD;
+use lent_cores::HINT_WORD;
 use lent_cores::LAST_CORE;
 use lent_cores::REGISTERS_SIZE;
 use lent_cores::SPSR_EL1_WORD;
 use lent_cores::SPSR_WORD;
 use lent_cores::TRAP_RESULT_SIZE;
+use lent_cores::VALUES_WORD;
 use lent_cores::WAIT_CODES;
 use lent_cores::WAIT_WORD;
 use lent_words::ONE_WORD;
@@ -77,11 +79,15 @@ pub fn get_gpr(cores: &[u8; CORES_SIZE], core: u64, index: usize) -> GprRead
     }
 }
 
-// One of the registers that are handed out, and zero past them.
-fn forwarded_at(cores: &[u8; CORES_SIZE], core: u64, recipient: Recipient, index: usize) -> u64
+// One of the values of a forwarded call: its function identifier, then the registers after x0 that are handed out, and zero past them.
+fn forwarded_at(cores: &[u8; CORES_SIZE], core: u64, call: GuestCall, index: usize) -> u64
     requires { ⌜ index < forwardedLength ⌝ }
-    ensures { λ r. ⌜ r ≡ getD (forwardedResult recipient (heldCore (now (cores .entry)) core .x) .values) index 0 ⌝ }
+    ensures { λ r. ⌜ r ≡ getD (forwardedResult call (heldCore (now (cores .entry)) core .x) .values) index 0 ⌝ }
 {
+    if index == 0 {
+        return call.function_id;
+    }
+    let recipient = call.recipient;
     if index < forwarded_call::registers_for(recipient) {
         get_at(cores, core, index)
     } else {
@@ -92,19 +98,21 @@ fn forwarded_at(cores: &[u8; CORES_SIZE], core: u64, recipient: Recipient, index
 // The result of a forwarded call.
 pub fn put_forwarded(
     result: &mut [u8; TRAP_RESULT_SIZE],
-    recipient: Recipient,
+    call: GuestCall,
     cores: &[u8; CORES_SIZE],
     core: u64,
 )
-    ensures { λ _. ⌜ now (result .exit) ≡ bytesOf (resultWords (forwardedResult recipient (heldCore (now (cores .entry)) core .x))) ⌝ }
+    ensures { λ _. ⌜ now (result .exit) ≡ bytesOf (resultWords (forwardedResult call (heldCore (now (cores .entry)) core .x))) ⌝ }
 {
+    let recipient = call.recipient;
     let answer = TrapAnswer::Forwarded(recipient);
     lent_words::put_word(result, 0, answer.kind());
     let mut i: usize = 0;
     while i < FORWARDED_VALUES {
-        lent_words::put_word(result, i + 1, forwarded_at(cores, core, recipient, i));
+        lent_words::put_word(result, i + VALUES_WORD, forwarded_at(cores, core, call, i));
         i += 1;
     }
+    lent_words::put_word(result, HINT_WORD, call.sve_hint);
 }
 
 // Stores one word of a core, and nothing where there is no core of that number.

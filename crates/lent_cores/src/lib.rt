@@ -36,12 +36,17 @@ pub const LAST_CORE: u64 = 7;
 // The counter stands after the eight cores.
 const COUNTER_WORD: usize = 8 * CORE_WORDS;
 
+// The words of a trap's result: the kind of the answer, the values from here on, and the SVE hint.
+pub const VALUES_WORD: usize = 1;
+
+pub const HINT_WORD: usize = VALUES_WORD + FORWARDED_VALUES;
+
 // The lengths of the lent buffers, in bytes: the cores with the counter, the registers of a save, the result of a trap.
 pub const CORES_SIZE: usize = 8 * (COUNTER_WORD + 1);
 
 pub const REGISTERS_SIZE: usize = 8 * (SPSR_WORD + 1);
 
-pub const TRAP_RESULT_SIZE: usize = 8 * (FORWARDED_VALUES + 1);
+pub const TRAP_RESULT_SIZE: usize = 8 * (HINT_WORD + 1);
 
 // How many codes there are of what a core waits for.
 pub const WAIT_CODES: u64 = 5;
@@ -220,7 +225,8 @@ pub fn put_trap_result(result: &mut [u8; TRAP_RESULT_SIZE], trap: TrapResult)
     lent_words::put_word(result, 0, answer.kind());
     let mut i: usize = 0;
     while i < FORWARDED_VALUES {
-        lent_words::put_word(result, i + 1, values[i]);
+        lent_words::put_word(result, i + VALUES_WORD, values[i]);
         i += 1;
     }
+    lent_words::put_word(result, HINT_WORD, trap.sve_hint);
 }

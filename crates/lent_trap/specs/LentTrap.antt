@@ -11,7 +11,7 @@ use Rattle.lent_words.specs.Words.{bytesOf, Left, unlessRefused}
 use Rattle.lent_policy.specs.Layout.{policyAt}
 use Rattle.lent_cores.specs.Layout.{coresAt, withCore, counterAt, withCounter}
 
--- what one core's step leaves: the core's words and the counter are written; the result is the kind of the answer and its values
+-- what one core's step leaves: the core's words and the counter are written; the result is the kind of the answer, its values and its hint
 abbrev pub trappedOne : List ℕ → ℕ → TrapStep → Left
 trappedOne cores i step =
     let number = trapNumber (step .result .answer) in

@@ -19,6 +19,7 @@ use data_abort::AccessOutcome;
 use data_abort::TrapRegisters;
 use exceptions::Conduit;
 use exceptions::Wait;
+use forwarded_call::GuestCall;
 use hypervisor::ExceptionClass;
 use lent_cores::CORES_SIZE;
 use lent_cores::LAST_CORE;
@@ -35,7 +36,7 @@ fn answer(answer: TrapAnswer, result: &mut [u8; TRAP_RESULT_SIZE]) -> u64
     answer.number()
 }
 
-// Hands a call out: the core waits, and the result has its registers.
+// Hands a call out: the core waits, its own x0 as it was, and the result has the call's values and its hint.
 fn forward_call(
     cores: &mut [u8; CORES_SIZE],
     core: u64,
@@ -48,9 +49,10 @@ fn forward_call(
         ⌜ Leaves (trappedOne (now (cores .entry)) core step) r (now (cores .exit)) (now (result .exit)) ⌝ }
 {
     lent_words::are_bytes(cores);
-    let function_id = lent_core::get_gpr(cores, core, 0);
-    let recipient = forwarded_call::recipient_of(function_id.value());
-    lent_core::put_forwarded(result, recipient, cores, core);
+    let x0 = lent_core::get_gpr(cores, core, 0);
+    let call = GuestCall::from_x0(x0.value());
+    lent_core::put_forwarded(result, call, cores, core);
+    let recipient = call.recipient;
     lent_core::put_wait(cores, core, Wait::Call(conduit, recipient));
     0
 }
@@ -164,7 +166,7 @@ fn dispatch(
     }
 }
 
-// Takes a core's trap: refusals 10 to 13. The result is the answer's kind and the values of a forwarded call.
+// Takes a core's trap: refusals 10 to 13. The result is the answer's kind, and the values and the SVE hint of a forwarded call.
 pub fn trap(
     policy: &[u8; POLICY_SIZE],
     cores: &mut [u8; CORES_SIZE],

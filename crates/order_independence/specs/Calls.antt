@@ -76,7 +76,7 @@ answerNumber (written answer) = writeNumber answer
 answerNumber (inserted answer) = insertNumber answer
 answerNumber (looked-up answer) = 0
 
--- its other result fields: a trap's kind and values, what a look-up or a remove found
+-- its other result fields: a trap's kind, values and hint, what a look-up or a remove found
 abbrev pub answerValues : Answer → List ℕ
 answerValues (changed answer) = []
 answerValues (stepped answer) = []

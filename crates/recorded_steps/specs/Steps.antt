@@ -35,7 +35,7 @@ abbrev pub trapMade : Policy → List Core → ℕ → Call → Trapped
 trapMade policy cores counter call =
     trapOn policy cores counter (call .a) (record { esr = call .b; fipa = record { 0 = call .c }; far = call .d; vbar = call .e })
 
--- what a trap comes to: number, kind, values
+-- what a trap comes to: number, kind, values, hint
 abbrev pub trapTaken : Record → Trapped → CoresTaken
 trapTaken r step =
     passed (foldl expected r (trapNumber (step .result .answer) ∷ resultWords (step .result))) (step .cores) (step .counter)

@@ -91,7 +91,7 @@ fn stepped(recorded: Record, counter: u64, step: CoresStep) -> CoresTaken
     }
 }
 
-// core esr fipa far vbar | number kind v0..v17
+// core esr fipa far vbar | number kind v0..v17 hint
 fn trap(policy: Policy, cores: [Core; 8], counter: u64, call: Call) -> Trapped
     ensures { λ r. ⌜ r ≡ trapMade policy cores counter call ⌝ }
 {
@@ -116,7 +116,8 @@ fn trapped(recorded: Record, step: Trapped) -> CoresTaken
         compared: recorded
             .expect(answer.number())
             .expect(answer.kind())
-            .expect_values(values),
+            .expect_values(values)
+            .expect(result.sve_hint),
         cores,
         counter: step.counter,
     }

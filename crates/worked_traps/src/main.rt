@@ -6,5 +6,6 @@ mod traps;
 
 fn main() {
     traps::rows();
+    traps::calls();
     replies::rows();
 }

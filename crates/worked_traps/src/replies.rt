@@ -69,8 +69,9 @@ pub(crate) fn rows() {
     columns(b"reply: ESR x0..x30 kind | answer x0 x1 x2 x3 x4 ELR\n");
     // Bench: one value, from the firmware.
     reply(ESR_SMC, 0xC400_0003, 1);
-    // The firmware gives no four values; the platform does; its error, after an SMC and after an HVC; no kind 5.
+    // The firmware gives no four values, also where x0 has an upper half; the platform does; its error, after an SMC and after an HVC; no kind 5.
     reply(ESR_SMC, 0x8400_0000, 2);
+    reply(ESR_SMC, 0x1_8400_0000, 2);
     reply(ESR_SMC, 0, 2);
     reply(ESR_SMC, 0, 4);
     reply(ESR_HVC, 0, 4);

@@ -82,6 +82,29 @@ fn trap_again(regions: u64, x: u64, trap: TrapRegisters) {
     end_row();
 }
 
+// What a call hands out, and the core's own x0 then.
+fn found_call(trapped: Trapped) {
+    let result = trapped.result;
+    let answer = result.answer;
+    let values = result.values;
+    let cores = trapped.cores;
+    let core = cores[0];
+    let x = core.x;
+    number(answer.kind());
+    number(values[0]);
+    number(values[1]);
+    number(values[17]);
+    number(result.sve_hint);
+    number(x[0]);
+}
+
+fn call(x: u64) {
+    number(x);
+    all_given();
+    found_call(hypervisor::trap(Policy::new(), saved_cores(x), 0, 0, trap_at(ESR_HVC, 0, 0)));
+    end_row();
+}
+
 // ESR_EL2 of an HVC and of an SMC, of a 64-bit load into x5, and of 64-bit stores from x5 and from Rt 31.
 pub const ESR_HVC: u64 = 0x5800_0000;
 
@@ -100,10 +123,9 @@ pub(crate) fn rows() {
     columns(
         b"trap: times regions x0..x30 ESR FAR VBAR | answer kind counter x5 ELR SPSR ESR_EL1 SPSR_EL1\n",
     );
-    // Bench: no region; a call for the firmware; one for the platform.
+    // Bench: no region; a call for the firmware.
     trap(0, 0, trap_at(ESR_LOAD, 0, 0x8_0000));
     trap(0, 0xC400_0003, trap_at(ESR_SMC, 0, 0));
-    trap(0, 0x1_8400_0000, trap_at(ESR_HVC, 0, 0));
     // Refusals 12, 13 and 11.
     trap(0, 0, trap_at(0, 0, 0x8_0000));
     trap(0, 0, trap_at(ESR_LOAD, 0, 0));
@@ -113,4 +135,17 @@ pub(crate) fn rows() {
     // A store at offset 8, where each of x0 to x30 holds the word that the page takes: Rt 31 reads 0, which is another, and faults.
     trap(1, STORED_WORD, trap_at(ESR_STORE, 8, 0x8_0000));
     trap(1, STORED_WORD, trap_at(ESR_STORE_RT_31, 8, 0x8_0000));
+}
+
+pub(crate) fn calls() {
+    columns(b"call by HVC: x0..x30 | kind v0 v1 v17 hint x0\n");
+    // Bench: bits 63:32 decide nothing; a fast call's bit 16 is a hint, for the firmware and for the platform.
+    call(0x1_8400_0000);
+    call(0x8401_0000);
+    call(0xC401_001F);
+    call(0x8400_0020);
+    call(0x8401_0020);
+    // A yielding call keeps it. Both at once.
+    call(0x0401_0000);
+    call(0x1_FF01_0000);
 }

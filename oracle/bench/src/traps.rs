@@ -37,6 +37,11 @@ const ABORT_INJECTED: u64 = 3;
 const TO_FIRMWARE: u64 = 4;
 const TO_PLATFORM: u64 = 5;
 
+// Words of a trap's result.
+const TRAP_KIND: usize = 0;
+const TRAP_FUNCTION: usize = 1;
+const TRAP_HINT: usize = 19;
+
 // Kinds of a reply.
 const ONE_VALUE: u64 = 1;
 const FOUR_VALUES: u64 = 2;
@@ -226,9 +231,15 @@ fn reply_in(state: &mut PortCores, function: ReplyFunction) -> u64 {
     function(&mut state.cores, state.core, state.reply_kind, &state.values, 0)
 }
 
-/// The number of the port's answer, if its trap was of the kind that the case says.
+/// The number of the port's answer, if its trap was of the kind that the case says. A call is one that the port hands
+/// out as RITM does, with x0 as it stands and no hint.
 fn number_of_trap(state: &PortCores, number: u64) -> Vec<u64> {
-    assert_eq!(state.trapped.get(0), state.expected, "the trap is of the kind that the case says");
+    let trapped = &state.trapped;
+    assert_eq!(trapped.get(TRAP_KIND), state.expected, "the trap is of the kind that the case says");
+    if matches!(state.expected, TO_FIRMWARE | TO_PLATFORM) {
+        let handed_out = [TRAP_FUNCTION, TRAP_HINT].map(|word| trapped.get(word));
+        assert_eq!(handed_out, [state.registers.get(0), 0], "RITM hands out the same call");
+    }
     vec![number]
 }
 

@@ -1,13 +1,15 @@
 //! What RITM is asked where the port takes a call, and how its answer is read as the one that the port owes.
 //!
-//! Document 01's domain is the first case: RITM is asked the same call, and what it answers and then holds is the
-//! port's. Outside of it RITM has no such call, panics, or answers with a wrapped sum. A change that makes the port
-//! depart from the Rust adds its case here.
+//! Agreement is the first case: RITM is asked the same call, and what it answers and then holds is the port's. Outside
+//! document 01's domain RITM has no such call, panics, or answers with a wrapped sum. A change that makes the port
+//! depart from the Rust adds its case here: the function identifier is one (document 02's Ask 3).
 
 use crate::call::{Answer, Call};
-use crate::ritm_rust::{CORES, DATA_ABORT, HVC, RitmRust, SMC, class};
+use crate::function::{self, Function};
+use crate::ritm_rust::{CORES, DATA_ABORT, HVC, RitmRust, SMC, class, is_guest_call};
 use reference::oracle::{self, Reply, Trap};
 use ritm::MemoryHandler;
+use std::{fmt, mem};
 
 /// The refusals outside document 01's domain.
 pub const OUTSIDE: [u64; 9] = [10, 11, 12, 13, 14, 15, 16, 18, 20];
@@ -30,6 +32,24 @@ pub enum Asked {
 pub enum Reading {
     /// As they are.
     Same,
+    /// A guest's call, HVC or SMC, whose x0 has bits set that the port does not read as RITM does: 63:32 or 16. RITM
+    /// takes the call with the function identifier in this core's x0, which is then put back. The hint, which RITM does
+    /// not have, is added.
+    ByIdentifier { core: usize, function: Function },
+}
+
+impl Reading {
+    /// How RITM's answer to this call is read, where RITM has the call.
+    fn of(call: &Call, rust: &RitmRust) -> Self {
+        match *call {
+            Call::Trap { core, trap } if is_guest_call(trap) => {
+                let core = core as usize;
+                let x0 = rust.cores[core].x[0];
+                if function::agrees(x0) { Self::Same } else { Self::ByIdentifier { core, function: Function::of(x0) } }
+            }
+            _ => Self::Same,
+        }
+    }
 }
 
 impl Asked {
@@ -37,7 +57,7 @@ impl Asked {
     pub fn of(call: &Call, rust: &mut RitmRust) -> Self {
         match outside(call, rust) {
             Some(due) => Self::Nothing { due },
-            None => Self::Ritm { call: call.clone(), read: Reading::Same },
+            None => Self::Ritm { call: call.clone(), read: Reading::of(call, rust) },
         }
     }
 
@@ -46,12 +66,36 @@ impl Asked {
         matches!(self, Self::Ritm { .. })
     }
 
+    /// Whether agreement is promised: RITM is asked the call as it stands, and answers as the port does.
+    pub fn in_agreement(&self) -> bool {
+        matches!(self, Self::Ritm { read: Reading::Same, .. })
+    }
+
     /// Asks it, and gives the answer that the port owes. RITM is left with the state that the port must then have: the
     /// mirror is made from it, and the next call starts there.
     pub fn answer(&self, rust: &mut RitmRust) -> Answer {
         match self {
             Self::Nothing { due } => Answer::number(*due),
             Self::Ritm { call, read: Reading::Same } => rust.take(call),
+            Self::Ritm { call, read: Reading::ByIdentifier { core, function } } => {
+                let x0 = mem::replace(&mut rust.cores[*core].x[0], function.identifier);
+                let answer = rust.take(call);
+                rust.cores[*core].x[0] = x0;
+                answer.with_hint(function.hint)
+            }
+        }
+    }
+}
+
+/// Who says what the port owes.
+impl fmt::Display for Asked {
+    fn fmt(&self, f: &mut fmt::Formatter) -> fmt::Result {
+        match self {
+            Self::Nothing { .. } => f.write_str("due"),
+            Self::Ritm { read: Reading::Same, .. } => f.write_str("RITM"),
+            Self::Ritm { read: Reading::ByIdentifier { function, .. }, .. } => {
+                write!(f, "RITM, asked with x0 {:#x}", function.identifier)
+            }
         }
     }
 }
@@ -114,11 +158,24 @@ mod tests {
     const SEED: u64 = 1;
     const LISTS: u64 = 500;
 
+    /// Bits 63:32 and 16 of x0.
+    const ZERO_IN_AGREEMENT: u64 = 0xFFFF_FFFF_0001_0000;
+
+    /// The x0 of a guest's call that is not refused.
+    fn x0_of(call: &Call, rust: &RitmRust) -> Option<u64> {
+        match *call {
+            Call::Trap { core, trap } if is_guest_call(trap) => Some(rust.cores[core as usize].x[0]),
+            _ => None,
+        }
+    }
+
     /// Document 01's domain, by the port's answers: RITM is asked every call that returns none of the refusals outside,
-    /// unchanged, and no other. All of these are met.
+    /// unchanged, and no other. Its answer is read as it is, but by the identifier where it is asked a guest's call and
+    /// bits 63:32 and 16 of x0 are not all zero. All of these are met.
     #[test]
     fn the_domain_is_document_01s() {
         let mut met = BTreeSet::new();
+        let mut met_agreement = BTreeSet::new();
         for number in 0..LISTS {
             let list = generate::list(SEED, number);
             let mut port = Port::fresh(list.counter);
@@ -130,11 +187,16 @@ mod tests {
                     assert_eq!(asked, Asked::Nothing { due: answer.number }, "{call}");
                     met.insert(answer.number);
                 } else {
-                    assert_eq!(asked, Asked::Ritm { call: call.clone(), read: Reading::Same }, "{call}");
+                    let x0 = x0_of(call, &rust);
+                    let agreement = x0.is_none_or(|x0| x0 & ZERO_IN_AGREEMENT == 0);
+                    let Asked::Ritm { call: asked_call, read } = &asked else { panic!("RITM is not asked: {call}") };
+                    assert_eq!((asked_call, *read == Reading::Same), (call, agreement), "{call}");
+                    met_agreement.extend(x0.map(|_| agreement));
                 }
                 assert_eq!(asked.answer(&mut rust), answer, "{call}");
             }
         }
         assert_eq!(met, BTreeSet::from(OUTSIDE));
+        assert_eq!(met_agreement, BTreeSet::from([false, true]));
     }
 }

@@ -111,8 +111,13 @@ impl fmt::Display for Call {
     }
 }
 
-/// The most result words of a call: a trap's kind and eighteen values.
-const MAX_WORDS: usize = 19;
+/// The words of a trap's result, by their places in `include/ritm.h`: the kind, the eighteen values, the SVE hint.
+pub const TRAP_KIND: usize = 0;
+pub const TRAP_VALUES: usize = 1;
+pub const TRAP_HINT: usize = 19;
+
+/// The most result words of a call: a trap's.
+pub const MAX_WORDS: usize = TRAP_HINT + 1;
 
 /// What a call returned, and its result words.
 #[derive(Clone, Copy, Debug, Eq, PartialEq)]
@@ -138,6 +143,12 @@ impl Answer {
     /// A call with no results but its number.
     pub fn number(number: u64) -> Self {
         Self::new(number, &[])
+    }
+
+    /// A trap's answer, but with this hint.
+    pub fn with_hint(mut self, hint: u64) -> Self {
+        self.words[TRAP_HINT] = hint;
+        self
     }
 
     /// The result words, zeros past those that the call has.

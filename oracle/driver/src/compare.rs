@@ -111,7 +111,7 @@ pub fn print(list: &List, difference: &Difference) {
         match panic::catch_unwind(AssertUnwindSafe(|| sides.step(call).0)) {
             Ok(Step { port, asked, owed }) => {
                 println!("     port: {port}");
-                println!("     {}: {owed}", if asked.of_ritm() { "RITM" } else { "due" });
+                println!("     {asked}: {owed}");
             }
             Err(_) => println!("     RITM panics"),
         }

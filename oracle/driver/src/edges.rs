@@ -1,7 +1,7 @@
 //! The edges that lists must meet, counted where RITM's Rust answers.
 
 use crate::asked::Asked;
-use crate::call::Call;
+use crate::call::{Answer, Call, TRAP_KIND, TRAP_VALUES};
 use crate::generate;
 use crate::ritm_rust::RitmRust;
 use reference::oracle::{Core, Trap};
@@ -25,8 +25,14 @@ enum Edge {
     /// An abort injected where the saved SPSR had this mode.
     Mode(u64),
     CounterWraps,
-    /// A call of this class with x0 by the limits of the firmware's calls.
-    Function(u64, u64),
+    /// A call of this class that hands out this function identifier, with this bit 16 of x0; and whether x0 has an
+    /// upper half.
+    Function {
+        class: u64,
+        identifier: u64,
+        bit_16: u64,
+        upper_half: bool,
+    },
     /// So many allowed ranges or regions.
     Ranges(usize),
     Regions(usize),
@@ -34,9 +40,32 @@ enum Edge {
     LastPage(u64),
 }
 
-/// By the limits of the firmware's calls: below the first, the first, the last, above the last.
-fn limits() -> impl Iterator<Item = u64> {
-    [0x8400_0000u64, 0xC400_0000].into_iter().flat_map(|first| [first - 1, first, first + 0x1F, first + 0x20])
+/// Identifiers of fast calls, which x0 holds with and without bit 16: the first of all; by the limits of the firmware's
+/// calls, the next below the first, the first, the last and the next above; and the platform's own call.
+const FAST: [u64; 10] = [
+    0x8000_0000,
+    0x83FE_FFFF,
+    0x8400_0000,
+    0x8400_001F,
+    0x8400_0020,
+    0xC3FE_FFFF,
+    0xC400_0000,
+    0xC400_001F,
+    0xC400_0020,
+    0xFF00_0000,
+];
+/// Identifiers of yielding calls, of which bit 16 is a part, with the value that it has: those with the other bits of
+/// the firmware's first calls, and the last of all.
+const YIELDING: [(u64, u64); 6] =
+    [(0x0400_0000, 0), (0x0401_0000, 1), (0x4400_0000, 0), (0x4401_0000, 1), (0x7FFE_FFFF, 0), (0x7FFF_FFFF, 1)];
+
+/// Calls of both classes, with and without an upper half.
+fn functions() -> impl Iterator<Item = Edge> {
+    let fast = FAST.into_iter().flat_map(|identifier| [(identifier, 0), (identifier, 1)]);
+    let forms = [(0x16, false), (0x16, true), (0x17, false), (0x17, true)];
+    fast.chain(YIELDING).flat_map(move |(identifier, bit_16)| {
+        forms.map(|(class, upper_half)| Edge::Function { class, identifier, bit_16, upper_half })
+    })
 }
 
 fn expected() -> BTreeSet<Edge> {
@@ -52,14 +81,16 @@ fn expected() -> BTreeSet<Edge> {
     edges.extend([0, 1, 2].map(Edge::ElrWraps));
     edges.extend((0..32).map(Edge::Mode));
     edges.extend([Edge::VbarWraps, Edge::CounterWraps, Edge::Ranges(32), Edge::Regions(16)]);
-    edges.extend([0x16, 0x17].into_iter().flat_map(|class| limits().map(move |x0| Edge::Function(class, x0))));
+    edges.extend(functions());
     edges.extend([Edge::LastPage(0), Edge::LastPage(4)]);
     edges
 }
 
-/// Adds the edges of a trap: `kind` is 0 where it was refused.
-fn of_trap(met: &mut BTreeSet<Edge>, trap: Trap, kind: u64, before: &Core, after: &Core, found: bool) {
+/// Adds the edges of a trap.
+fn of_trap(met: &mut BTreeSet<Edge>, trap: Trap, answer: &Answer, before: &Core, after: &Core, found: bool) {
     let class = trap.esr >> 26 & 0x3F;
+    // 0 where the trap was refused.
+    let kind = answer.words()[TRAP_KIND];
     met.insert(Edge::Class(class));
     if class == 0x24 && kind != 0 {
         let bit = |place: u64| trap.esr >> place & 1;
@@ -78,7 +109,8 @@ fn of_trap(met: &mut BTreeSet<Edge>, trap: Trap, kind: u64, before: &Core, after
         met.insert(Edge::VbarWraps);
     }
     if matches!(kind, 4 | 5) {
-        met.insert(Edge::Function(class, before.x[0]));
+        let (x0, identifier) = (before.x[0], answer.words()[TRAP_VALUES]);
+        met.insert(Edge::Function { class, identifier, bit_16: x0 >> 16 & 1, upper_half: x0 >> 32 != 0 });
     }
 }
 
@@ -93,7 +125,7 @@ fn of_list(met: &mut BTreeSet<Edge>, number: u64) {
         match *call {
             Call::Trap { trap, .. } => {
                 let found = rust.oracle.find(trap.fipa << 12 | trap.far & 0xFFF).is_some();
-                of_trap(met, trap, answer.words()[0], &before, &after, found);
+                of_trap(met, trap, &answer, &before, &after, found);
             }
             Call::Reply { .. } if after.elr < before.elr => {
                 met.insert(Edge::ElrWraps(0));

@@ -1,6 +1,7 @@
-//! What RITM does where the port refuses with 10 to 16, 18 or 20, and where a sum wraps: each asked once, as a table.
+//! What RITM does where the port refuses with 10 to 16, 18 or 20, where it goes by the function identifier, and where a
+//! sum wraps: each asked once, as a table.
 
-use crate::call::{Answer, Call};
+use crate::call::{Answer, Call, TRAP_HINT, TRAP_KIND, TRAP_VALUES};
 use crate::compare;
 use crate::mirror;
 use crate::port::{self, Port};
@@ -112,6 +113,8 @@ pub fn text() -> String {
     table.title("Calls that the port refuses and RITM panics at or answers with a wrapped sum");
     refused(&mut table);
     above_the_last_page(&mut table);
+    table.title("Guests' calls, which the port takes by the function identifier and RITM by all of x0");
+    guest_calls(&mut table);
     table.title("Calls that both answer: sums that wrap, and what counts");
     sums(&mut table);
     limits(&mut table);
@@ -205,6 +208,28 @@ fn above_the_last_page(table: &mut Table) {
         let case = Case::new(&[], Call::AlignUp { address: END.wrapping_sub(below) });
         table.both(&format!("align up, 2^64 - {below}"), &case, value);
     }
+}
+
+/// Calls with an upper half in x0 and with bit 16, of a fast call and of a yielding one.
+fn guest_calls(table: &mut Table) {
+    for x0 in [0x1_8400_0000, 0x8401_0000, 0x0401_0000] {
+        let case = Case::new(&[Call::WriteGpr { core: 0, index: 0, value: x0 }], trap(HVC, 0, 0));
+        let rust = case.on_rust().map_or_else(|panic| panic, |view| handed_out(&view));
+        let port = case.on_port();
+        let hint = port.answer.words()[TRAP_HINT];
+        table.row(&format!("HVC, x0 {x0:#x}"), &rust, &format!("{}, hint {hint}", handed_out(&port)));
+    }
+}
+
+/// Who is handed a call, and what in place of x0.
+fn handed_out(view: &View) -> String {
+    let words = view.answer.words();
+    let recipient = match words[TRAP_KIND] {
+        4 => "the firmware",
+        5 => "the platform",
+        kind => return format!("kind {kind}"),
+    };
+    format!("to {recipient} with {:#x}", words[TRAP_VALUES])
 }
 
 /// Every exception class but the three, counted by what comes of it.

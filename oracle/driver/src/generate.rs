@@ -4,6 +4,7 @@
 //! be cut down and still means the same calls.
 
 use crate::call::{Call, List};
+use crate::function::Function;
 use crate::random::{FILTERED_MMIO_STORE, Random};
 use reference::oracle::Trap;
 use ritm::MemoryHandler;
@@ -19,6 +20,26 @@ const EL0T: u64 = 0;
 const EL1T: u64 = 4;
 const EL1H: u64 = 5;
 const AARCH32: u64 = 0x10;
+
+/// What a guest adds to a function identifier in x0.
+#[derive(Clone, Copy)]
+struct Added {
+    /// Bit 16, the hint of a fast call.
+    bit_16: bool,
+    upper_half: bool,
+}
+
+/// How often each is added. Mostly nothing is, so that most calls are asked of RITM with x0 as it stands.
+const ADDED: [(u64, Added); 4] = [
+    (9, Added { bit_16: false, upper_half: false }),
+    (1, Added { bit_16: true, upper_half: false }),
+    (1, Added { bit_16: false, upper_half: true }),
+    (1, Added { bit_16: true, upper_half: true }),
+];
+
+const BIT_16: u64 = 1 << 16;
+/// Bit 31 of x0, which a fast call has and a yielding one has not.
+const FAST_CALL: u64 = 1 << 31;
 
 /// What a list is mostly about.
 #[derive(Clone, Copy, Eq, PartialEq)]
@@ -405,15 +426,34 @@ impl Generator {
         self.waiting.get(usize::try_from(core).ok()?).copied().flatten()
     }
 
-    /// A number at the limits of the firmware's calls.
+    /// The x0 of a call: mostly a function identifier, with nothing added or with bits that the port does not read as
+    /// RITM does; at times any word, which often has an upper half.
     fn function(&mut self) -> u64 {
+        if self.random.once_in(8) {
+            return self.word();
+        }
+        let added = self.random.weighted(&ADDED);
+        let bit_16 = if added.bit_16 { BIT_16 } else { 0 };
+        let upper_half = if added.upper_half { self.upper_half() } else { 0 };
+        upper_half | bit_16 | self.identifier()
+    }
+
+    fn upper_half(&mut self) -> u64 {
+        let any = self.random.next() << 32;
+        self.random.pick(&[1 << 32, 1 << 63, any])
+    }
+
+    /// A function identifier with bit 16 clear, mostly by the limits of the firmware's calls; the one next below
+    /// 0x84000000 is then 0x83FEFFFF. Others are by the limit of fast and yielding calls, or yielding calls whose other
+    /// bits are those of the firmware's.
+    fn identifier(&mut self) -> u64 {
         let first = self.random.pick(&[0x8400_0000, 0xC400_0000]);
         match self.random.below(8) {
-            0 => first + self.random.pick(&[0, 0x1E, 0x1F]),
-            1 => first + self.random.pick(&[0x20, 0u64.wrapping_sub(1), 1 << 32, 1 << 63]),
-            2..=4 => first + self.random.below(0x20),
-            5 => 0xFF00_0000,
-            _ => self.word(),
+            0..=2 => first + self.random.below(0x20),
+            3 | 4 => self.random.pick(&[(first - 1) & !BIT_16, first, first + 0x1E, first + 0x1F, first + 0x20]),
+            5 => self.random.pick(&[0xFF00_0000, FAST_CALL, (FAST_CALL - 1) & !BIT_16]),
+            6 => first - FAST_CALL + self.random.pick(&[0, 0x1F]),
+            _ => self.random.next() >> 32 & !BIT_16,
         }
     }
 
@@ -421,9 +461,10 @@ impl Generator {
         let core = self.free_core();
         let mut firmware = false;
         if !self.random.once_in(5) {
-            let function = self.function();
-            firmware = matches!(function, 0x8400_0000..=0x8400_001F | 0xC400_0000..=0xC400_001F);
-            self.calls.push(Call::WriteGpr { core, index: 0, value: function });
+            let x0 = self.function();
+            let identifier = Function::of(x0).identifier;
+            firmware = matches!(identifier, 0x8400_0000..=0x8400_001F | 0xC400_0000..=0xC400_001F);
+            self.calls.push(Call::WriteGpr { core, index: 0, value: x0 });
         }
         let class = self.random.pick(&[0x16, 0x17]);
         let iss = self.random.below(1 << 25);

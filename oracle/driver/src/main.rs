@@ -6,6 +6,7 @@ mod compare;
 #[cfg(test)]
 mod edges;
 mod facts;
+mod function;
 mod generate;
 mod mirror;
 mod port;

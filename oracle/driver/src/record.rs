@@ -1,12 +1,15 @@
 //! The recorded answers: lists of calls with what RITM's Rust answered, as text.
 //!
 //! A record is a line of lower-case hexadecimal numbers: its code, the arguments, the answer. A list begins with the
-//! record of its fresh states and ends with those of the state that it leads to. Calls at which RITM is not asked are
-//! left out. Two calls have a lent form with a code of its own: a search is recorded in both, a register's write by
-//! turns, since it could not be seen a second time.
+//! record of its fresh states and ends with those of the state that it leads to. A call outside the agreement, at which
+//! RITM is not asked or is asked something else, is left out: it is not made, so that the state has nothing of it. Two
+//! calls have a lent form with a code of its own: a search is recorded in both, a register's write by turns, since it
+//! could not be seen a second time.
+//!
+//! The answer of a trap is its number, the kind, the eighteen values and, last, the SVE hint: 21 fields.
 
 use crate::asked::Asked;
-use crate::call::{Call, List};
+use crate::call::{Call, List, MAX_WORDS};
 use crate::generate;
 use crate::mirror;
 use crate::ritm_rust::RitmRust;
@@ -40,7 +43,7 @@ fn form(call: &Call) -> Form {
         Call::Handle { .. } => (0x2, true, 0),
         Call::Find { .. } => (0x3, false, 3),
         Call::Save { .. } => (0x4, true, 0),
-        Call::Trap { .. } => (0x5, true, 19),
+        Call::Trap { .. } => (0x5, true, MAX_WORDS),
         Call::Reply { .. } => (0x6, true, 0),
         Call::WriteGpr { .. } => (0x7, true, 0),
         Call::Insert { .. } => (0x8, true, 0),
@@ -117,7 +120,7 @@ fn record(list: &List, text: &mut String) {
     for (turn, call) in list.calls.iter().enumerate() {
         let form = form(call);
         let asked = Asked::of(call, &mut rust);
-        if !asked.of_ritm() {
+        if !asked.in_agreement() {
             continue;
         }
         let answer = asked.answer(&mut rust);
@@ -163,6 +166,7 @@ mod tests {
     use super::*;
     use crate::call::Answer;
     use crate::port::Port;
+    use crate::ritm_rust::is_guest_call;
     use reference::oracle::Trap;
 
     fn words<const N: usize>(fields: &[u64]) -> [u64; N] {
@@ -192,6 +196,16 @@ mod tests {
             (0x14, &[core, index, ..]) => Call::ReadGpr { core, index },
             _ => return None,
         })
+    }
+
+    /// A guest's call is of the agreement: bits 63:32 and 16 of its x0 are zero.
+    fn assert_agreement(port: &Port, call: &Call) {
+        if let Call::Trap { core, trap } = *call
+            && is_guest_call(trap)
+        {
+            let x0 = port.cores.get(38 * core as usize);
+            assert_eq!(x0 & 0xFFFF_FFFF_0001_0000, 0, "{call}");
+        }
     }
 
     /// What the port answers to a record's call, in the form of the record.
@@ -242,7 +256,8 @@ mod tests {
         }
     }
 
-    /// The text is read back and the port, asked the same, answers the same; every answer of RITM's is there.
+    /// The text is read back and the port, asked the same, answers the same; every answer of RITM's is there, and of
+    /// guests' calls those of the agreement.
     #[test]
     fn the_port_answers_the_records_alike() {
         let text = text();
@@ -254,6 +269,7 @@ mod tests {
             if fields[0] == FRESH {
                 port = Port::fresh(fields[1]);
             } else if let Some(call) = call(&fields) {
+                assert_agreement(&port, &call);
                 let (answer, results) = answer(&mut port, &call);
                 assert_eq!(fields[1 + call.arguments().len()..], results, "{call}");
                 met.insert(kind_of_answer(&call, &answer));

@@ -1,6 +1,6 @@
 //! RITM's own Rust, as the side with which the port is compared.
 
-use crate::call::{Answer, Call};
+use crate::call::{Answer, Call, MAX_WORDS, TRAP_HINT, TRAP_KIND, TRAP_VALUES};
 use memory_access::{MemoryAccess, MemoryAccessKind};
 use reference::hypervisor::SuspendMap;
 use reference::oracle::{self, Core, Oracle, Reply, Trap};
@@ -24,7 +24,7 @@ const FOUND: u64 = 1;
 #[derive(Clone, Copy)]
 struct Forwarded {
     trap: Trap,
-    /// The core's x0 at the trap, by which RITM chooses the recipient.
+    /// The x0 that RITM was asked with, by which it chooses the recipient.
     x0: u64,
     firmware: bool,
 }
@@ -48,6 +48,11 @@ pub struct RitmRust {
 /// EC, ESR_EL2's bits 31:26.
 pub fn class(trap: Trap) -> u64 {
     trap.esr >> 26 & 0x3F
+}
+
+/// Whether the trap is a guest's call, which x0 names.
+pub fn is_guest_call(trap: Trap) -> bool {
+    matches!(class(trap), HVC | SMC)
 }
 
 impl RitmRust {
@@ -138,8 +143,8 @@ impl RitmRust {
         trap_answer(&answer)
     }
 
-    /// RITM's trap again, on the core as it now is and with this reply. Its x0 may have been written meanwhile, so the
-    /// one that chose the recipient is put back: every reply writes x0.
+    /// RITM's trap again, on the core as it now is and with this reply. Its x0 may be another than the one that RITM
+    /// was asked with, which chose the recipient and is put back: every reply writes x0.
     fn reply(&mut self, at: usize, reply: Reply) -> Answer {
         let call = self.forwarded[at].take().expect("RITM is asked for a reply where a core waits for one");
         self.cores[at].x[0] = call.x0;
@@ -150,7 +155,7 @@ impl RitmRust {
     }
 }
 
-/// The kind and the values of a trap's answer.
+/// The kind and the values of a trap's answer. RITM has no hint: it is 0.
 fn trap_answer(answer: &oracle::Answer) -> Answer {
     let (kind, values) = match answer {
         oracle::Answer::LoadHandled => (1, &[0; 18]),
@@ -159,8 +164,9 @@ fn trap_answer(answer: &oracle::Answer) -> Answer {
         oracle::Answer::ToFirmware(values) => (4, values),
         oracle::Answer::ToPlatform(values) => (5, values),
     };
-    let mut words = [kind; 19];
-    words[1..].copy_from_slice(values);
+    let mut words = [0; MAX_WORDS];
+    words[TRAP_KIND] = kind;
+    words[TRAP_VALUES..TRAP_HINT].copy_from_slice(values);
     Answer::accepted(&words)
 }
 

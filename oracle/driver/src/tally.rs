@@ -1,8 +1,9 @@
 //! How often each answer was met.
 
-use crate::asked::OUTSIDE;
-use crate::call::Call;
+use crate::asked::{Asked, OUTSIDE, Reading};
+use crate::call::{Answer, Call, TRAP_HINT, TRAP_KIND};
 use crate::compare::Step;
+use crate::ritm_rust::is_guest_call;
 use std::collections::BTreeMap;
 use std::fmt;
 
@@ -26,6 +27,16 @@ struct Counts {
     found: u64,
 }
 
+/// Guests' calls, HVC and SMC, by what RITM was asked.
+#[derive(Default)]
+struct GuestCalls {
+    /// In the agreement: x0 as it stands.
+    as_it_stands: u64,
+    by_identifier: u64,
+    /// Of the latter, those with hint 1.
+    hinted: u64,
+}
+
 /// Counts of answers.
 #[derive(Default)]
 pub struct Tally {
@@ -33,7 +44,31 @@ pub struct Tally {
     pub calls: u64,
     by_name: BTreeMap<&'static str, Counts>,
     traps: [u64; TRAPS.len()],
+    guest_calls: GuestCalls,
     replies: [u64; 5],
+}
+
+impl GuestCalls {
+    fn count(&mut self, asked: &Asked, answer: &Answer) {
+        match asked {
+            Asked::Nothing { .. } => {}
+            Asked::Ritm { read: Reading::Same, .. } => self.as_it_stands += 1,
+            Asked::Ritm { read: Reading::ByIdentifier { .. }, .. } => {
+                self.by_identifier += 1;
+                self.hinted += u64::from(answer.words()[TRAP_HINT] == 1);
+            }
+        }
+    }
+}
+
+impl fmt::Display for GuestCalls {
+    fn fmt(&self, f: &mut fmt::Formatter) -> fmt::Result {
+        let calls = self.as_it_stands + self.by_identifier;
+        writeln!(f, "{calls} calls of guests, HVC and SMC, by what RITM was asked:")?;
+        writeln!(f, "  {:>15} {:>12}", "x0 as it stands", self.as_it_stands)?;
+        writeln!(f, "  {:>15} {:>12}", "the identifier", self.by_identifier)?;
+        writeln!(f, "  {:>15} {:>12}", "of these hint 1", self.hinted)
+    }
 }
 
 impl Tally {
@@ -50,9 +85,12 @@ impl Tally {
             return;
         }
         match *call {
-            Call::Trap { .. } => {
-                if let Some(counted) = self.traps.get_mut(answer.words()[0].wrapping_sub(1) as usize) {
+            Call::Trap { trap, .. } => {
+                if let Some(counted) = self.traps.get_mut(answer.words()[TRAP_KIND].wrapping_sub(1) as usize) {
                     *counted += 1;
+                }
+                if is_guest_call(trap) {
+                    self.guest_calls.count(&step.asked, answer);
                 }
             }
             Call::Find { .. } | Call::LookUp { .. } | Call::Remove { .. } => counts.found += answer.words()[0],
@@ -109,6 +147,7 @@ impl fmt::Display for Tally {
         for (answer, times) in self.answers() {
             writeln!(f, "  {answer:>15} {times:>12}")?;
         }
+        write!(f, "{}", self.guest_calls)?;
         writeln!(
             f,
             "{} calls that RITM is not asked, refused by the port with nothing changed:",

@@ -166,6 +166,13 @@ pub const EDITS: &[Edit] = &[
         lists: 200,
     },
     Edit {
+        name: "bit 16 of a yielding call is cleared",
+        file: HYPERVISOR,
+        old: "let function_id = volatile_gprs[0];",
+        new: "let function_id = volatile_gprs[0] & if volatile_gprs[0] < 1 << 31 { !(1 << 16) } else { u64::MAX };",
+        lists: 50,
+    },
+    Edit {
         name: "allowing tests overlap before capacity",
         file: STAGE2,
         old: "self.check_allowed_range_capacity()?;

@@ -12,7 +12,11 @@ pub const REGION_COUNT: usize = 209;
 pub const CORE_WORDS: usize = 38;
 pub const COUNTER: usize = 304;
 pub const MAP_WORDS: usize = 4;
+pub const TRAP_HINT: usize = 19;
 const WAIT: usize = 37;
+
+/// Bit 16 of x0: in a fast call the hint, and no part of the function identifier.
+const SVE_HINT: u64 = 1 << 16;
 
 /// The value that the filtered MMIO page takes, by a store at offset 8.
 const FILTERED_MMIO_STORE: u64 = 0x1234_5678_9abc_def0;
@@ -69,15 +73,7 @@ impl Buffer {
     pub fn result_fits(self, bytes: &[u8]) -> bool {
         let words: Vec<u64> = (0..bytes.len() / 8).map(|k| word(bytes, k)).collect();
         match self {
-            Buffer::TrapResult => {
-                let values = match words[0] {
-                    1..=3 => 0,
-                    4 => 4,
-                    5 => 18,
-                    _ => return false,
-                };
-                words[1 + values..].iter().all(|value| *value == 0)
-            }
+            Buffer::TrapResult => trap_result_fits(&words),
             Buffer::FindResult => words[0] == 1 && words[1] < 16 || words == [0; 3],
             Buffer::EntryResult => words[0] == 1 || words == [0; 3],
             Buffer::AccessResult => {
@@ -88,6 +84,24 @@ impl Buffer {
             _ => true,
         }
     }
+}
+
+/// As many values as the kind has, and zeros past them; of a forwarded call the first is a function
+/// identifier of its recipient's, and the hint a fast call's.
+fn trap_result_fits(words: &[u64]) -> bool {
+    let (id, hint) = (words[1], words[TRAP_HINT]);
+    let is_fast_call = id >> 31 == 1;
+    let is_psci = matches!(id, 0x8400_0000..=0x8400_001f | 0xc400_0000..=0xc400_001f);
+    let values = match words[0] {
+        1..=3 => 0,
+        4 if is_psci => 4,
+        5 if !is_psci => 18,
+        _ => return false,
+    };
+    words[1 + values..TRAP_HINT].iter().all(|value| *value == 0)
+        && id <= u64::from(u32::MAX)
+        && (hint == 0 || hint == 1 && is_fast_call)
+        && !(is_fast_call && id & SVE_HINT != 0)
 }
 
 pub fn word(bytes: &[u8], k: usize) -> u64 {
@@ -122,7 +136,8 @@ fn fill_policy(bytes: &mut [u8], random: &mut Random) {
     put(bytes, REGION_COUNT, random.one_of(&counts));
 }
 
-/// Cores that wait as often as not, x0 near the firmware's calls, and registers that may be stored.
+/// Cores that wait as often as not, x0 of a call near the firmware's, and registers that may be
+/// stored.
 fn fill_cores(bytes: &mut [u8], random: &mut Random) {
     for core in 0..8 {
         let start = core * CORE_WORDS;
@@ -131,12 +146,20 @@ fn fill_cores(bytes: &mut [u8], random: &mut Random) {
                 put(bytes, start + x, FILTERED_MMIO_STORE);
             }
         }
-        let call = random.one_of(&[0x8400_0000, 0xc400_0000, 0x1_8400_0000, 0]);
-        put(bytes, start, call + random.below(0x24));
+        put(bytes, start, x0_of_call(random));
         let wait = if random.once_in(2) { random.below(6) } else { 0 };
         put(bytes, start + WAIT, wait);
     }
     put(bytes, COUNTER, random.any());
+}
+
+/// A function identifier near the firmware's or of a yielding call, often with bit 16 set, and at
+/// times with bits of the upper half.
+fn x0_of_call(random: &mut Random) -> u64 {
+    let id = random.one_of(&[0x8400_0000, 0xc400_0000, 0x400_0000]) + random.below(0x24);
+    let hint = if random.once_in(2) { SVE_HINT } else { 0 };
+    let upper = if random.once_in(4) { random.number() << 32 } else { 0 };
+    upper | hint | id
 }
 
 /// Keys are few, so that they are often held; the map is often full.

@@ -1,12 +1,12 @@
 //! One random call, and what must hold of it.
 
-use crate::buffers::{word, Buffer};
+use crate::buffers::{word, Buffer, TRAP_HINT};
 use crate::entry_points::{EntryPoint, Numbers, Use, ENTRY_POINTS};
 use crate::lent::Lent;
 use crate::random::Random;
 
 /// The sizes that `ritm_buffer_size` gives.
-const SIZES: [u64; 10] = [1680, 2440, 256, 264, 144, 152, 24, 24, 48, 8];
+const SIZES: [u64; 10] = [1680, 2440, 256, 264, 144, 160, 24, 24, 48, 8];
 
 /// What is wrong, if anything.
 type Checked = Result<(), String>;
@@ -105,11 +105,12 @@ impl Call {
         words.all(|k| (self.entry.may_change)(self.numbers, before, k))
     }
 
-    /// The kind that a trap came to, 0 for a refused one.
-    pub fn trap_kind(&self, outcome: &Outcome) -> Option<u64> {
+    /// The kind that a trap came to, 0 for a refused one, and its hint.
+    pub fn trap_kind_and_hint(&self, outcome: &Outcome) -> Option<(u64, u64)> {
         let mut buffers = self.entry.buffers.iter();
         let place = buffers.position(|(buffer, _)| *buffer == Buffer::TrapResult)?;
-        Some(word(&outcome.after[place], 0))
+        let result = &outcome.after[place];
+        Some((word(result, 0), word(result, TRAP_HINT)))
     }
 }
 

@@ -13,6 +13,8 @@ type Counts<K> = BTreeMap<K, u64>;
 pub struct Met {
     refusals: Counts<u64>,
     kinds: Counts<u64>,
+    /// Of the calls that are forwarded, those with the hint.
+    hinted_kinds: Counts<u64>,
     accepted: Counts<&'static str>,
 }
 
@@ -21,13 +23,15 @@ impl Met {
         Self {
             refusals: (1..=22).map(|number| (number, 0)).collect(),
             kinds: (1..=5).map(|kind| (kind, 0)).collect(),
+            hinted_kinds: (4..=5).map(|kind| (kind, 0)).collect(),
             accepted: ENTRY_POINTS.iter().map(|entry| (entry.name, 0)).collect(),
         }
     }
 
     pub fn count(&mut self, call: &Call, outcome: &Outcome) {
-        if let Some(times) = call.trap_kind(outcome).and_then(|kind| self.kinds.get_mut(&kind)) {
-            *times += 1;
+        if let Some((kind, hint)) = call.trap_kind_and_hint(outcome) {
+            self.kinds.entry(kind).and_modify(|times| *times += 1);
+            self.hinted_kinds.entry(kind).and_modify(|times| *times += hint);
         }
         let is_size = call.entry.buffers.is_empty();
         let times = if outcome.number == 0 || is_size {
@@ -41,11 +45,13 @@ impl Met {
     pub fn print(&self) {
         print_counts("refusals", &self.refusals);
         print_counts("kinds of trap", &self.kinds);
+        print_counts("kinds of trap with the hint", &self.hinted_kinds);
         print_counts("accepted", &self.accepted);
     }
 
     pub fn often_enough(&self) -> bool {
-        let counts = self.refusals.values().chain(self.kinds.values());
+        let kinds = self.kinds.values().chain(self.hinted_kinds.values());
+        let counts = self.refusals.values().chain(kinds);
         counts.chain(self.accepted.values()).all(|times| *times >= AT_LEAST)
     }
 }

@@ -5,7 +5,7 @@ use native.Mathlib.Omega.{arith}
 use borrow.Author.Needs.{needs}
 use lib.ListN.{length, replicate}
 use lib.Seq.{paste, paste-zero}
-use Rattle.forwarded_call.specs.ForwardedCall.{forwardedValues}
+use Rattle.forwarded_call.specs.ForwardedCall.{firstRegisters}
 use Rattle.forwarded_call.proofs.Laws.{copied, drop-zeros}
 use Rattle.forwarded_call.proofs.first_registers.Statement.{statement}
 use Rattle.forwarded_call.proofs.first_registers.Tie as tie
@@ -47,7 +47,7 @@ loop-again c =
     (omega arith, copied (replicate 18 0) (a .t1) (c .before .loop .values) (c .before .loop .index) (omega arith) (omega arith) (c .before .loop .inv .1))
 
 returns : tie.Need-returns Inv-loop μ-loop
-unfolding forwardedValues
+unfolding firstRegisters
 returns c =
     let n = c .before .before .args .count in
     let e : c .before .loop .index ≡ n = omega arith in

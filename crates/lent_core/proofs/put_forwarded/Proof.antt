@@ -1,21 +1,21 @@
--- The kind, and then the loop's invariant: the values before `i` are stored.
+-- The kind, then the loop's invariant: the values before `i` are stored; then the hint.
 use native.Mathlib.Omega.{arith}
 use borrow.Author.Needs.{needs}
 use Prim.Native.Nat.{_+_, _-_}
-use mathlib.Core.Path.{refl, _∙_}
-use mathlib.Core.List.{[]}
-use Rattle.core_answers.specs.Answers.{forwardedLength, resultWords}
+use mathlib.Core.Path.{refl}
+use Rattle.core_answers.specs.Answers.{forwardedLength}
 use Rattle.lent_words.specs.Words.{withWord}
-use Rattle.lent_words.proofs.Words.{written-whole, Stored, stored-next, stored-done, store-later}
+use Rattle.lent_words.proofs.Words.{Stored, stored-next, stored-done}
+use Rattle.lent_cores.proofs.Results.{result-written}
 use Rattle.lent_core.proofs.InPlace.{handedOut, length-values}
 use Rattle.lent_core.proofs.put_forwarded.Statement.{statement}
 use Rattle.lent_core.proofs.put_forwarded.Tie as tie
 
 abbrev Inv-loop : tie.InvT-loop
-Inv-loop result₀ recipient cores core i₀ result i = Stored (λ b j w. withWord b (j + 1) w) result₀ (handedOut cores core recipient .values) result i
+Inv-loop result₀ call cores core i₀ result i = Stored (λ b j w. withWord b (j + 1) w) result₀ (handedOut cores core call .values) result i
 
 abbrev μ-loop : tie.MeasureT-loop
-μ-loop result₀ recipient cores core i₀ result i = forwardedLength - i
+μ-loop result₀ call cores core i₀ result i = forwardedLength - i
 
 kind-requires : tie.Need-kind-requires Inv-loop μ-loop
 kind-requires c κs = search needs
@@ -44,17 +44,24 @@ loop-less c = omega arith
 loop-again : tie.Need-loop-again Inv-loop μ-loop
 loop-again c =
     let a = c .before .before .before .before .before .before .before .before .args in
-    let fits = length-values (a .cores .now) (a .core) (a .recipient) in
+    let fits = length-values (a .cores .now) (a .core) (a .call) in
     stored-next (c .before .before .before .before .loop .inv) (omega (arith, fits)) 0 _ (rw (← c .before .forwarded-at .ensures) (c .put-word2 .ensures))
+
+put-word-requires-3 : tie.Need-put-word-requires-3 Inv-loop μ-loop
+put-word-requires-3 c κs = search needs
 
 returns : tie.Need-returns Inv-loop μ-loop
 returns c =
-    let a = c .before .before .before .before .before .args in
-    let result = handedOut (a .cores .now) (a .core) (a .recipient) in
-    let fits = length-values (a .cores .now) (a .core) (a .recipient) in
-    stored-done (c .before .loop .inv) (omega (arith, fits))
-    ∙ store-later withWord _ 0 (result .values)
-    ∙ rw (c .before .before .put-word .ensures, c .before .before .before .kind .ensures) (written-whole (resultWords result) [] _ 0 refl (omega (arith, fits)))
+    let kind = c .before .before .before .before in
+    let a = kind .before .before .before .args in
+    let fits = length-values (a .cores .now) (a .core) (a .call) in
+    rw (
+      c .put-word3 .ensures,
+      stored-done (c .before .before .before .loop .inv) (omega (arith, fits)),
+      kind .put-word .ensures,
+      kind .before .kind .ensures,
+    )
+    (result-written (handedOut (a .cores .now) (a .core) (a .call)) _ (omega arith) fits)
 
 pub put-forwarded-spec : {M : Type 1} → statement M
 put-forwarded-spec =
@@ -71,4 +78,5 @@ put-forwarded-spec =
     add-i
     loop-less
     loop-again
+    put-word-requires-3
     returns)

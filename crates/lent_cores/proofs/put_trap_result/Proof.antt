@@ -1,22 +1,22 @@
--- The kind, and then the loop's invariant: the values before `i` are stored.
+-- The kind, then the loop's invariant: the values before `i` are stored; then the hint.
 use native.Mathlib.Omega.{arith}
 use borrow.Author.Needs.{needs}
 use Prim.Native.Nat.{_+_, _-_}
-use mathlib.Core.Path.{_≡_, refl, _∙_}
-use mathlib.Core.List.{[]}
+use mathlib.Core.Path.{_≡_, refl}
 use lib.ListN.{length}
 use Rattle.lists.proofs.Laws.{length-mapped}
-use Rattle.core_answers.specs.Answers.{forwardedLength, resultWords}
+use Rattle.core_answers.specs.Answers.{forwardedLength}
 use Rattle.lent_words.specs.Words.{withWord}
-use Rattle.lent_words.proofs.Words.{written-whole, Stored, stored-next, stored-done, store-later}
+use Rattle.lent_words.proofs.Words.{Stored, stored-next, stored-done}
+use Rattle.lent_cores.proofs.Results.{result-written}
 use Rattle.lent_cores.proofs.put_trap_result.Statement.{statement}
 use Rattle.lent_cores.proofs.put_trap_result.Tie as tie
 
 abbrev Inv-loop : tie.InvT-loop
-Inv-loop result₀ values i₀ result i = Stored (λ b j w. withWord b (j + 1) w) result₀ values result i
+Inv-loop result₀ trap values i₀ result i = Stored (λ b j w. withWord b (j + 1) w) result₀ values result i
 
 abbrev μ-loop : tie.MeasureT-loop
-μ-loop result₀ values i₀ result i = forwardedLength - i
+μ-loop result₀ trap values i₀ result i = forwardedLength - i
 
 values-length : (c : tie.Start Inv-loop μ-loop) → length (c .args .trap .values) ≡ forwardedLength
 values-length c = search (length-mapped, needs)
@@ -53,14 +53,21 @@ loop-again c =
     let long = values-length (c .before .before .before .before .before .before .before .before) in
     stored-next (c .before .before .before .loop .inv) (omega arith) 0 _ (c .put-word2 .ensures)
 
+put-word-requires-3 : tie.Need-put-word-requires-3 Inv-loop μ-loop
+put-word-requires-3 c κs = search needs
+
 returns : tie.Need-returns Inv-loop μ-loop
 returns c =
-    let start = c .before .before .before .before .before .before in
-    let trap = start .args .trap in
+    let kind = c .before .before .before .before in
+    let start = kind .before .before .before .before in
     let long = values-length start in
-    stored-done (c .before .loop .inv) (omega arith)
-    ∙ store-later withWord _ 0 (trap .values)
-    ∙ rw (c .before .before .put-word .ensures, c .before .before .before .kind .ensures) (written-whole (resultWords trap) [] _ 0 refl (omega (arith, long)))
+    rw (
+      c .put-word3 .ensures,
+      stored-done (c .before .before .before .loop .inv) (omega arith),
+      kind .put-word .ensures,
+      kind .before .kind .ensures,
+    )
+    (result-written (start .args .trap) _ (omega arith) long)
 
 pub put-trap-result-spec : {M : Type 1} → statement M
 put-trap-result-spec =
@@ -78,4 +85,5 @@ put-trap-result-spec =
     add-i
     loop-less
     loop-again
+    put-word-requires-3
     returns)

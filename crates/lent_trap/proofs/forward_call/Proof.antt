@@ -18,8 +18,8 @@ get-gpr-requires c κs = search needs
 value-requires : tie.Need-value-requires
 value-requires c κs = search needs
 
-recipient-of-requires : tie.Need-recipient-of-requires
-recipient-of-requires c κs = search needs
+from-x0-requires : tie.Need-from-x0-requires
+from-x0-requires c κs = search needs
 
 put-forwarded-requires : tie.Need-put-forwarded-requires
 put-forwarded-requires c κs = search needs
@@ -37,7 +37,7 @@ returns c =
       c .put-wait .ensures,
       c .before .before .put-forwarded .ensures,
       le-ltb 7 (a .core) (omega arith),
-      g .recipient-of .ensures,
+      g .from-x0 .ensures,
       g .before .value .ensures,
       g .before .before .get-gpr .ensures,
     )
@@ -50,7 +50,7 @@ forward-call-spec =
     are-bytes-requires
     get-gpr-requires
     value-requires
-    recipient-of-requires
+    from-x0-requires
     put-forwarded-requires
     put-wait-requires
     returns)

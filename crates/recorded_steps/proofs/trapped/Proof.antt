@@ -1,4 +1,6 @@
+use mathlib.Core.List.{_∷_, [], foldl-append}
 use borrow.Author.Needs.{needs}
+use Rattle.records.specs.Records.{expected}
 use Rattle.recorded_steps.proofs.trapped.Statement.{statement}
 use Rattle.recorded_steps.proofs.trapped.Tie as tie
 
@@ -17,14 +19,21 @@ expect-requires-2 c κs = search needs
 expect-values-requires : tie.Need-expect-values-requires
 expect-values-requires c κs = search needs
 
+expect-requires-3 : tie.Need-expect-requires-3
+expect-requires-3 c κs = search needs
+
 returns : tie.Need-returns
 returns c =
+    let values = c .before in
+    let result = values .before .before .before .before .before .before .before .before .args .step .result in
     rw (
-      c .expect-values .ensures,
-      c .before .expect2 .ensures,
-      c .before .before .kind .ensures,
-      c .before .before .before .expect .ensures,
-      c .before .before .before .before .number .ensures,
+      c .expect3 .ensures,
+      values .expect-values .ensures,
+      values .before .expect2 .ensures,
+      values .before .before .kind .ensures,
+      values .before .before .before .expect .ensures,
+      values .before .before .before .before .number .ensures,
+      foldl-append expected _ (result .values) (result .«sve_hint» ∷ []),
     )
 
 pub trapped-spec : {M : Type 1} → statement M
@@ -36,4 +45,5 @@ trapped-spec =
     kind-requires
     expect-requires-2
     expect-values-requires
+    expect-requires-3
     returns)
