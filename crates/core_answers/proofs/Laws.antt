@@ -70,7 +70,7 @@ resultOf number (kind ∷ ws) = record { answer = answerOf number kind; values =
 
 result-back : (r : TrapResult) → resultOf (trapNumber (r .answer)) (resultWords r) ≡ r
 unfolding resultOf
-result-back r = rw (answer-back (r .answer), before-last (r .values) (r .«sve_hint»), last-of (r .values) (r .«sve_hint»))
+result-back r = rw (answer-back (r .answer), before-last, last-of)
 
 -- "every result field": results with the same number and the same words are the same
 pub result-told : (a b : TrapResult) → trapNumber (a .answer) ≡ trapNumber (b .answer) → resultWords a ≡ resultWords b → a ≡ b

@@ -6,11 +6,10 @@ use Rattle.memory_import.proofs.Changes.{change-refused}
 use Rattle.simple_map.proofs.Laws.{insert-refused}
 use Rattle.exceptions.specs.Registers.{freshCore, coreOf}
 use Rattle.exceptions.proofs.Laws.{write-refused}
-use Rattle.core_answers.specs.Answers.{resultWords}
 use Rattle.core_answers.proofs.Laws.{refused-zero}
 use Rattle.hypervisor.specs.declared.Trapped.{Trapped}
 use Rattle.hypervisor.proofs.Kept.{save-refused, reply-refused, trap-refused}
-use Rattle.order_independence.specs.Calls.{State, HostCall, change, core-call, save, trap, reply, write-gpr, insert, get, remove, answerValues, AllZero, withPolicy, withCores, withMap, call, IsRefused}
+use Rattle.order_independence.specs.Calls.{State, HostCall, change, core-call, save, trap, reply, write-gpr, insert, get, remove, trapped, answerValues, AllZero, withPolicy, withCores, withMap, call, IsRefused}
 
 -- "A refusal returns its number .., and all state is as before"
 pub refusal-keeps : (s : State) (c : HostCall) → IsRefused s c → call s c .state ≡ s
@@ -32,7 +31,7 @@ refusal-zero s (change c) h v m = absurd (List·Memᴰ·not-nil m)
 refusal-zero s (core-call (save core x elr spsr)) h v m = absurd (List·Memᴰ·not-nil m)
 refusal-zero s (core-call (trap core registers)) h v m =
     let kept = trap-refused (s .policy) (s .cores) (s .counter) core registers h in
-    refused-zero (kept .0) v (rw (ap (λ (t : Trapped). resultWords (t .result)) (kept .1)) at m)
+    refused-zero (kept .0) v (rw (ap (λ (t : Trapped). answerValues (trapped (t .result))) (kept .1)) at m)
 refusal-zero s (core-call (reply core result)) h v m = absurd (List·Memᴰ·not-nil m)
 refusal-zero s (core-call (write-gpr form core index value)) h v m = absurd (List·Memᴰ·not-nil m)
 refusal-zero s (core-call (insert key value)) h v m = absurd (List·Memᴰ·not-nil m)
