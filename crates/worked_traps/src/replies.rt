@@ -1,4 +1,4 @@
-// Replies to a call of core 0, whose x0 to x30 held the function identifier, ELR 0x1000 and SPSR 5; and calls on cores that there are not.
+// Replies to a call of core 0, whose x0 to x30 held one value, ELR 0x1000 and SPSR 5; and calls on cores that there are not.
 use super::print::all_given;
 use super::print::columns;
 use super::print::end_row;
@@ -39,12 +39,12 @@ fn found_step(step: CoresStep) {
     found_core(cores);
 }
 
-fn reply(esr: u64, function_id: u64, kind: u64) {
+fn reply(esr: u64, x: u64, kind: u64) {
     number(esr);
-    number(function_id);
+    number(x);
     number(kind);
     all_given();
-    let cores = saved_cores(function_id);
+    let cores = saved_cores(x);
     let called = hypervisor::trap(Policy::new(), cores, 0, 0, trap_at(esr, 0, 0));
     let waiting = called.cores;
     found_step(hypervisor::reply(waiting, 0, reply_of(kind)));
