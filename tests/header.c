@@ -233,12 +233,30 @@ static void make_machine(struct machine *machine, const uint64_t *trap)
     }
 }
 
-/* A trap's kind. */
-static uint64_t trap_kind(const uint64_t *a)
+/* A word of a trap's result. */
+static uint64_t trap_word(const uint64_t *a, size_t word)
 {
     struct machine machine;
     make_machine(&machine, a);
-    return ritm_get_word(&machine.trapped, RITM_TRAP_KIND);
+    return ritm_get_word(&machine.trapped, word);
+}
+
+/* A trap's kind. */
+static uint64_t trap_kind(const uint64_t *a)
+{
+    return trap_word(a, RITM_TRAP_KIND);
+}
+
+/* The first value of a trap's result: a call's function identifier. */
+static uint64_t identifier(const uint64_t *a)
+{
+    return trap_word(a, RITM_TRAP_VALUES);
+}
+
+/* A trap's hint. */
+static uint64_t hint(const uint64_t *a)
+{
+    return trap_word(a, RITM_TRAP_HINT);
 }
 
 /* What core 1 waits for after a trap. */
@@ -255,22 +273,6 @@ static uint64_t trap_place(const uint64_t *a)
     struct machine machine;
     make_machine(&machine, a);
     return place_of(a[3], &machine.trapped, sizeof machine.trapped);
-}
-
-/* The first value of a trap's result: a call's function identifier. */
-static uint64_t identifier(const uint64_t *a)
-{
-    struct machine machine;
-    make_machine(&machine, a);
-    return ritm_get_word(&machine.trapped, RITM_TRAP_VALUES);
-}
-
-/* A trap's hint. */
-static uint64_t hint(const uint64_t *a)
-{
-    struct machine machine;
-    make_machine(&machine, a);
-    return ritm_get_word(&machine.trapped, RITM_TRAP_HINT);
 }
 
 /* Where the cores hold a word after a trap. The fourth argument is the word. */
