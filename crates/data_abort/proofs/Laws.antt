@@ -26,12 +26,12 @@ use Rattle.qemu.proofs.Laws.{counter-fits}
 use Rattle.core_answers.specs.declared.CoreError.the-variants.{NoGuestVector}
 use Rattle.core_answers.specs.declared.TrapAnswer.the-variants.{AccessHandled, AbortInjected, Refused}
 use Rattle.core_answers.specs.declared.TrapStep.{TrapStep}
-use Rattle.core_answers.specs.Answers.{trapNumber, isForwarded, refusedTrap}
+use Rattle.core_answers.specs.Answers.{trapNumber, isForwarded, withoutValues, refusedTrap}
 use Rattle.core_answers.specs.declared.CoreError.{CoreError}
 use Rattle.data_abort.specs.declared.TrapRegisters.{TrapRegisters}
 use Rattle.data_abort.specs.DataAbort.{iss, accessBy, offsetIn, pageRead, notHandled, injectionDue, wordRead, done, emulateAccess, tryMemoryAccess, withEc, injected, injectDataAbort, stepBy, handleDataAbort}
 use Rattle.data_abort.specs.declared.AccessOutcome.{AccessOutcome}
-use Rattle.data_abort.specs.declared.AccessOutcome.the-variants.{Unhandled}
+use Rattle.data_abort.specs.declared.AccessOutcome.the-variants.{Loaded, Stored, Unhandled}
 use native.Mathlib.Omega.{arith}
 
 -- "the whole ESR with EC 0x25": bits 31:26 are the class, and all others are as they were
@@ -170,6 +170,21 @@ abort-not-forwarded regions core counter trap =
     go true true = refl
     go true false = refl
     go false none = refl
+
+-- so that its result has no values and no hint
+pub abort-without-values : (regions : List MemoryAccessRegion) (core : Core) (counter : ℕ) (trap : TrapRegisters) →
+    let result = handleDataAbort regions core counter trap .result in
+    result ≡ withoutValues (result .answer)
+unfolding handleDataAbort injectDataAbort
+abort-without-values regions core counter trap = go (tryMemoryAccess regions core counter trap)
+  where
+    Without : TrapStep → Type 0
+    Without step = step .result ≡ withoutValues (step .result .answer)
+
+    go : (outcome : AccessOutcome) → Without (stepBy outcome core counter trap)
+    go (Loaded index value after) = refl
+    go Stored = refl
+    go Unhandled = cond-all Without (eqb (trap .vbar) 0) _ _ refl refl
 
 -- A core and a counter that fit words fit after a data abort.
 pub in-aborted : (regions : List MemoryAccessRegion) (core : Core) (counter : ℕ) (trap : TrapRegisters) → InWords core → FitsWord counter

@@ -4,6 +4,7 @@ pub mod Refusals
 pub mod Steps
 pub mod Kept
 pub mod Waiting
+pub mod Results
 pub mod Counter
 pub mod InWords
 pub mod Opened
