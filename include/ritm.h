@@ -3,10 +3,10 @@
  *
  * Buffers. All state is the caller's. It stands in buffers of fixed sizes, a struct of 64-bit words for each. A word is
  * little-endian in memory whatever the processor is: ritm_get_word reads it on any host, and a little-endian one may
- * read and write words[k] itself. Any words are a valid state, and an unknown code in them reads as 0. Every buffer of
- * a call must be readable and, unless it is const, writable in its whole size, whatever the call comes to: no pointer
- * may be null, but for the blob of an import whose length is 0. The buffers of one call must not overlap. No function
- * keeps a pointer.
+ * read and write words[k] itself. Any words are a valid state: an unknown code of a region's handler reads as
+ * RITM_HANDLER_FAULT, and any other unknown code as 0. Every buffer of a call must be readable and, unless it is const,
+ * writable in its whole size, whatever the call comes to: no pointer may be null, but for the blob of an import whose
+ * length is 0. The buffers of one call must not overlap. No function keeps a pointer.
  *
  * Alignment. A buffer that is declared by its type is aligned to 8, and no archive asks for more. One that comes from
  * elsewhere must be aligned to 8 too for the archive for 64-bit Arm, whose accesses are of 64 bits at multiples of 8
@@ -134,7 +134,7 @@ enum ritm_refusal {
     RITM_CORE_WAITING = 11,
     /* ESR_EL2's EC is none of 0x16, 0x17 and 0x24. */
     RITM_UNEXPECTED_EXCEPTION_CLASS = 12,
-    /* An abort is to be injected and VBAR_EL1 is 0. */
+    /* An abort is to be injected and VBAR_EL1 is 0. (An access that is served, quietly or not, needs no vector.) */
     RITM_NO_GUEST_VECTOR = 13,
     /* A reply to a core that waits for none. */
     RITM_NOTHING_WAITING = 14,
@@ -148,7 +148,7 @@ enum ritm_refusal {
     RITM_NO_PAGE_ABOVE = 18,
     /* The ISS has ISV clear. */
     RITM_NO_SYNDROME = 19,
-    /* A handler's number is none of enum ritm_memory_handler. */
+    /* A handler's number is none of enum ritm_memory_handler: it is above 2. */
     RITM_UNKNOWN_MEMORY_HANDLER = 20,
     /* The bytes are no devicetree blob of up to 64 KiB that ritm_import_memory reads, or a cell count of its root or a
        memory node's reg has a wrong length. */
@@ -157,10 +157,15 @@ enum ritm_refusal {
     RITM_UNSUPPORTED_CELL_COUNTS = 22
 };
 
-/* Who serves the loads or the stores of a region. */
+/* Who serves the loads or the stores of a region, each direction by its own handler. A trap whose syndrome has no valid
+   fields (ISV clear) injects the abort whatever the handlers are. */
 enum ritm_memory_handler {
+    /* Nobody, quietly: a load of any width gives 0, a store is dropped, and the guest goes on past the instruction. */
     RITM_HANDLER_ABSENT = 0,
+    /* The filtered MMIO page: what it does not serve is a fault, and the guest gets the abort. */
     RITM_HANDLER_FILTERED_MMIO = 1,
+    /* Nobody: the guest gets the abort, as it does in RITM where a handler is missing. */
+    RITM_HANDLER_FAULT = 2,
     /* How many there are. */
     RITM_HANDLER_COUNT
 };
@@ -218,7 +223,7 @@ enum ritm_reply_kind {
 #define RITM_POLICY_ALLOWED_COUNT 128
 
 /* Policy: region k, a range whose accesses are handled, stands at word RITM_POLICY_REGIONS + k * RITM_REGION_WORDS,
-   ascending by base. */
+   ascending by base. RITM_REGION_READ and RITM_REGION_WRITE are its handlers (enum ritm_memory_handler). */
 #define RITM_POLICY_REGIONS 129
 #define RITM_REGION_WORDS 5
 #define RITM_REGION_BASE 0

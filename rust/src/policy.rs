@@ -18,19 +18,22 @@ const REGION_COUNT: usize = REGIONS + MAX_MEMORY_ACCESS_HANDLERS * REGION_WORDS;
 #[derive(Clone, Copy, Debug, Eq, PartialEq)]
 #[repr(u64)]
 pub enum MemoryHandler {
-    /// Nobody: the guest gets the abort.
+    /// Nobody, quietly: a load of any width gives 0 and a store is dropped, and the guest goes on
+    /// past the instruction.
     Absent = 0,
     /// The filtered MMIO page of RITM's QEMU platform.
     FilteredMmio = 1,
+    /// Nobody: the guest gets the abort, as it does in RITM where a handler is missing.
+    Fault = 2,
 }
 
 impl MemoryHandler {
     /// All of them, by number.
-    pub const ALL: &'static [Self] = &[Self::Absent, Self::FilteredMmio];
+    pub const ALL: &'static [Self] = &[Self::Absent, Self::FilteredMmio, Self::Fault];
 
-    /// The handler of a code in a policy's bytes: an unknown one reads as absent.
+    /// The handler of a code in a policy's bytes: an unknown one reads as the fault.
     fn from_code(code: u64) -> Self {
-        Self::ALL.iter().copied().find(|&handler| handler as u64 == code).unwrap_or(Self::Absent)
+        Self::ALL.iter().copied().find(|&handler| handler as u64 == code).unwrap_or(Self::Fault)
     }
 }
 
@@ -178,7 +181,7 @@ impl Policy {
         accepted(ffi::ritm_import_memory(&mut self.0, blob, attributes))
     }
 
-    /// Has the guest's accesses to a range handled.
+    /// Has the guest's accesses to a range handled, loads by one handler and stores by another.
     ///
     /// # Errors
     ///

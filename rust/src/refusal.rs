@@ -54,7 +54,7 @@ refusals! {
     NoSuchRegister = 17, "the register's index is above 31";
     NoPageAbove = 18, "no page boundary above the address is below 2^64";
     NoSyndrome = 19, "the ISS has ISV clear";
-    UnknownMemoryHandler = 20, "a handler's number names none";
+    UnknownMemoryHandler = 20, "a handler's number is above 2";
     InvalidDevicetree = 21, "the blob is no devicetree of at most 64 KiB, or a cell count or reg has a wrong length";
     UnsupportedCellCounts = 22, "a cell count of the devicetree's root is neither 1 nor 2";
 }

@@ -4,7 +4,7 @@ use Prim.Native.Nat.{ℕ, zero, suc, _+_, _-_, _^_}
 use mathlib.Core.Bool.{Bool, true, false, _&&_}
 use mathlib.Core.List.{List, [], _∷_, _++_}
 use lib.Dec.{eqb}
-use lib.ListN.{take}
+use lib.ListN.{take, getD}
 use Rattle.lists.specs.Lists.{firstIndex}
 use Rattle.memory_access.specs.declared.MemoryAccessWidth.the-variants.{U8, U64}
 use Rattle.memory_access.specs.Syndrome.{decodeAccess, numberOf, valuesOf}
@@ -15,8 +15,8 @@ use Rattle.stage2.specs.Policy.{freshPolicy, regionsHeld}
 use Rattle.stage2.specs.Builds.{BuilderCall, allow, handle, build, buildAll}
 use Rattle.exceptions.specs.declared.Core.{Core}
 use Rattle.exceptions.specs.Registers.{coreOf}
-use Rattle.core_answers.specs.Answers.{coreNumber, trapKind}
-use Rattle.bench_table.specs.States.{load, oneRegion, trapAt, trapped, replied}
+use Rattle.core_answers.specs.Answers.{coreNumber, trapNumber, trapKind}
+use Rattle.bench_table.specs.States.{load, oneRegion, accessAt, trapAt, trapped, trappedThrough, replied}
 
 -- a row: the numbers that the definitions give, and those of the document
 pub record Row : Type 0 where
@@ -86,6 +86,24 @@ abort esr vbar =
     let core = core0 (step .cores) in
     trapKind (step .result .answer) ∷ core .el1 .esr ∷ core .elr ∷ core .el1 .spsr ∷ []
 
+-- after an access to the page at 0x0F000000 with these handlers, every register 7 and the counter 9: the answer's number, which answer it
+-- is (1: load handled, 2: store handled), x5, ELR, the counter
+abbrev pub through : ℕ → ℕ → ℕ → ℕ → ℕ → List ℕ
+through read write esr far vbar =
+    let step = trappedThrough read write (accessAt esr far vbar) in
+    let core = core0 (step .cores) in
+    trapNumber (step .result .answer) ∷ trapKind (step .result .answer) ∷ getD (core .x) 5 0 ∷ core .elr ∷ step .counter ∷ []
+
+-- ESR_EL2 of a load into x5, of 64 bits and of 32, and of a store of 64 bits from x5
+abbrev pub load64 : ℕ
+load64 = 0x93C58000
+
+abbrev pub load32 : ℕ
+load32 = 0x93850000
+
+abbrev pub store64 : ℕ
+store64 = 0x93C58040
+
 -- which answer the trap of a call is: 4 to the firmware, 5 to the platform. All registers hold the same value as x0.
 abbrev pub call : ℕ → ℕ → ℕ
 call esr x0 = trapKind (trapped x0 (trapAt esr 0) .result .answer)
@@ -145,4 +163,14 @@ benchTable =
     ∷ row (handOut 0x1FF010000) (5 ∷ 0xFF000000 ∷ 0x1FF010000 ∷ 1 ∷ 0x1FF010000 ∷ [])
     -- a core that called with 0x184000000 waits for the firmware, whose reply of kind 2 is refused: 15
     ∷ row (take 1 (reply hvc 0x184000000 2)) (15 ∷ [])
+    -- a load through an absent half, into x5, which held 7: 0; of 32 bits, at an offset of 3
+    ∷ row (through 0 1 load64 0 0x80000 ++ through 0 1 load32 3 0x80000) (0 ∷ 1 ∷ 0 ∷ 0x1004 ∷ 9 ∷ 0 ∷ 1 ∷ 0 ∷ 0x1004 ∷ 9 ∷ [])
+    -- a load of the word at 16 through it, and through the filtered page: the counter stays, and grows
+    ∷ row (through 0 1 load64 16 0x80000 ++ through 1 0 load64 16 0x80000) (0 ∷ 1 ∷ 0 ∷ 0x1004 ∷ 9 ∷ 0 ∷ 1 ∷ 9 ∷ 0x1004 ∷ 10 ∷ [])
+    -- a store through an absent half, VBAR 0: accepted
+    ∷ row (through 2 0 store64 0 0) (0 ∷ 2 ∷ 7 ∷ 0x1004 ∷ 9 ∷ [])
+    -- a load through half 2, with a vector and with VBAR 0: the abort; 13
+    ∷ row (through 2 0 load64 0 0x80000 ++ through 2 0 load64 0 0) (0 ∷ 3 ∷ 7 ∷ 0x80200 ∷ 9 ∷ 13 ∷ 0 ∷ 7 ∷ 0x1000 ∷ 9 ∷ [])
+    -- handle with half 2; with half 3: accepted; 20
+    ∷ row (answerAfter [] (handle 0 4096 2 2) ∷ answerAfter [] (handle 0 4096 3 0) ∷ answerAfter [] (handle 0 4096 0 3) ∷ []) (0 ∷ 20 ∷ 20 ∷ [])
     ∷ []

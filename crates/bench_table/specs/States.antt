@@ -35,13 +35,21 @@ oneRegion = handleRange freshPolicy 0x0F000000 0x1000 1 1 .policy
 unfoldable pub savedCores : ℕ → List Core
 savedCores value = saveOn freshCores 0 (replicate 31 value) 0x1000 5 .cores
 
--- what the hardware says of a trap, its FIPA 0xF000 and its FAR 0
+-- what the hardware says of a trap, its FIPA 0xF000
+abbrev pub accessAt : ℕ → ℕ → ℕ → TrapRegisters
+accessAt esr far vbar = record { esr = esr; fipa = record { 0 = 0xF000 }; far = far; vbar = vbar }
+
+-- the same, its FAR 0
 abbrev pub trapAt : ℕ → ℕ → TrapRegisters
-trapAt esr vbar = record { esr = esr; fipa = record { 0 = 0xF000 }; far = 0; vbar = vbar }
+trapAt esr vbar = accessAt esr 0 vbar
 
 -- the trap of core 0 saved so, with no region and the counter 0
 unfoldable pub trapped : ℕ → TrapRegisters → Trapped
 trapped value trap = trapOn freshPolicy (savedCores value) 0 0 trap
+
+-- the same with these handlers for the page at 0x0F000000, 7 in all registers, and the counter 9
+unfoldable pub trappedThrough : ℕ → ℕ → TrapRegisters → Trapped
+trappedThrough read write trap = trapOn (handleRange freshPolicy 0x0F000000 0x1000 read write .policy) (savedCores 7) 9 0 trap
 
 -- a reply of this kind, its values all 7 and its error -3
 abbrev pub replyOf : ℕ → HvcReply

@@ -18,7 +18,7 @@ use Rattle.bits.proofs.Laws.{field-fits}
 use Rattle.stage2_range.specs.declared.MemoryAccessRegion.{MemoryAccessRegion}
 use Rattle.stage2_range.specs.declared.MemoryAccessHandlerMatch.{MemoryAccessHandlerMatch}
 use Rattle.stage2_range.specs.declared.MemoryHandler.{MemoryHandler}
-use Rattle.stage2_range.specs.declared.MemoryHandler.the-variants.{Absent, FilteredMmio}
+use Rattle.stage2_range.specs.declared.MemoryHandler.the-variants.{Absent, FilteredMmio, Fault}
 use Rattle.stage2_range.specs.declared.MemoryReadResult.{MemoryReadResult}
 use Rattle.stage2_range.specs.declared.MemoryReadResult.the-variants as read
 use Rattle.stage2_range.specs.declared.RegionFound.{RegionFound}
@@ -32,7 +32,7 @@ use Rattle.core_answers.specs.declared.TrapAnswer.the-variants.{AccessHandled}
 use Rattle.core_answers.specs.declared.TrapStep.{TrapStep}
 use Rattle.core_answers.specs.Answers.{answered}
 use Rattle.data_abort.specs.declared.TrapRegisters.{TrapRegisters}
-use Rattle.data_abort.specs.DataAbort.{iss, accessBy, offsetIn, isAbsent, pageRead, isReadFault, deviceFault, notHandled, injectionDue, wordRead, injectDataAbort, handleDataAbort}
+use Rattle.data_abort.specs.DataAbort.{iss, accessBy, absentHandler, offsetIn, pageRead, isReadFault, notHandled, injectionDue, wordRead, injectDataAbort, handleDataAbort}
 use Rattle.data_abort.specs.CounterLoad.{CounterLoad}
 use Rattle.data_abort.proofs.Laws.{handled, by-cases}
 
@@ -49,7 +49,7 @@ counter-answered regions core counter trap l =
     rw (by-cases regions core counter trap, l .isv-set, l .is-found, l .wnr-clear, l .reads-page, counter-loaded (pageRead access (l .found .offset)) counter of-counter)
 
 -- A step that does not depend on the counter, and leaves it.
-abbrev Steady : (ℕ → TrapStep) → Type 0
+abbrev pub Steady : (ℕ → TrapStep) → Type 0
 Steady f = (counter counter′ : ℕ) → f counter ≡ record { result = f counter′ .result; core = f counter′ .core; counter = counter }
 
 cond-steady : (b : Bool) (f g : ℕ → TrapStep) → Steady f → Steady g → Steady (λ counter. cond b (f counter) (g counter))
@@ -89,21 +89,17 @@ module _ (regions : List MemoryAccessRegion) (core : Core) (trap : TrapRegisters
   abbrev stepOf : MemoryAccessKind → RegionFound → ℕ → TrapStep
   stepOf kind found counter =
       let rt = readValue (readGpr core (access .«register_index»)) in
-      cond (notHandled kind found access rt counter) (injectDataAbort core counter trap) (handled trap kind access (offsetIn found) core counter)
+      cond (notHandled kind found access rt counter) (injectDataAbort core counter trap) (handled trap kind (absentHandler kind found) access (offsetIn found) core counter)
 
   -- a load through a read handler
   by-handler : isv (iss (trap .esr)) ≡ true → wnr (iss (trap .esr)) ≡ false → (m : MemoryAccessHandlerMatch)
       → findRegion regions (access .ipa) ≡ Match m → (handler : MemoryHandler) → m .region .handler .read ≡ handler
-      → CounterLoad regions trap
-      ⊎ Steady (λ counter. cond (isAbsent handler || deviceFault Read access (m .offset) 0 counter) (injectDataAbort core counter trap)
-      (handled trap Read access (m .offset) core counter))
+      → CounterLoad regions trap ⊎ Steady (stepOf Read (Match m))
   unfolding loadsCounter
-  by-handler v d m f Absent h = inr (inject-steady core trap)
+  by-handler v d m f Absent h = inr (rw h (λ counter counter′. refl))
   by-handler v d m f FilteredMmio h = go (loadsCounter (pageRead access (m .offset))) refl
     where
-      go : (b : Bool) → loadsCounter (pageRead access (m .offset)) ≡ b
-          → CounterLoad regions trap
-          ⊎ Steady (λ counter. let got = readFilteredMmio (pageRead access (m .offset)) counter in loadStep (got .result) (got .counter) counter)
+      go : (b : Bool) → loadsCounter (pageRead access (m .offset)) ≡ b → CounterLoad regions trap ⊎ Steady (stepOf Read (Match m))
       go true e =
           let both = both-true (is64 (access .width)) (eqb (m .offset) 16) e in
           inl (record {
@@ -115,19 +111,19 @@ module _ (regions : List MemoryAccessRegion) (core : Core) (trap : TrapRegisters
             offset-16 = eqb-true (m .offset) 16 (both .1);
             reads-page = h;
           })
-      go false e = inr (λ counter counter′.
+      go false e = inr (rw h (λ counter counter′.
           let kept = counter-kept (pageRead access (m .offset)) counter counter′ e in
           rw (kept .0)
           (load-steady (readFilteredMmio (pageRead access (m .offset)) counter′ .result)
           (readFilteredMmio (pageRead access (m .offset)) counter .counter) (readFilteredMmio (pageRead access (m .offset)) counter′ .counter)
-          counter counter′ (kept .1)))
+          counter counter′ (kept .1))))
+  by-handler v d m f Fault h = inr (rw h (inject-steady core trap))
 
   by-direction : isv (iss (trap .esr)) ≡ true → (m : MemoryAccessHandlerMatch) → findRegion regions (access .ipa) ≡ Match m
       → (write : Bool) → wnr (iss (trap .esr)) ≡ write → CounterLoad regions trap ⊎ Steady (stepOf (kindOf write) (Match m))
   by-direction v m f true d =
-      let rt = readValue (readGpr core (access .«register_index»)) in
-      inr (cond-steady (isAbsent (m .region .handler .write) || deviceFault Write access (m .offset) rt 0)
-      (λ counter. injectDataAbort core counter trap) (λ counter. handled trap Write access (m .offset) core counter)
+      inr (cond-steady (notHandled Write (Match m) access (readValue (readGpr core (access .«register_index»))) 0)
+      (λ counter. injectDataAbort core counter trap) (λ counter. handled trap Write (absentHandler Write (Match m)) access (m .offset) core counter)
       (inject-steady core trap) (λ counter counter′. refl))
   by-direction v m f false d = by-handler v d m f (m .region .handler .read) refl
 
@@ -142,7 +138,7 @@ module _ (regions : List MemoryAccessRegion) (core : Core) (trap : TrapRegisters
       let rt = readValue (readGpr core (access .«register_index»)) in
       let found = findRegion regions (access .ipa) in
       cond (not valid || notHandled (access .kind) found access rt counter) (injectDataAbort core counter trap)
-      (handled trap (access .kind) access (offsetIn found) core counter)
+      (handled trap (access .kind) (absentHandler (access .kind) found) access (offsetIn found) core counter)
 
   by-syndrome : (valid : Bool) → isv (iss (trap .esr)) ≡ valid → CounterLoad regions trap ⊎ Steady (stepBySyndrome valid)
   by-syndrome false v = inr (inject-steady core trap)

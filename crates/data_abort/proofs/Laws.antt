@@ -2,7 +2,7 @@
 use mathlib.Core.Bool.{Bool, true, false, not, _&&_, _||_, cond}
 use mathlib.Core.List.{List}
 use Prim.Native.Nat.{ℕ, _/_, _^_, _<_}
-use mathlib.Core.Path.{_≡_, refl, ap, ap₂, _∙_}
+use mathlib.Core.Path.{_≡_, refl, ap, ap₂, subst, _∙_}
 use lib.Dec.{eqb, lit<}
 use Rattle.lists.proofs.Laws.{cond-map, cond-all}
 use Rattle.bits.specs.Bits.{bitsAt, lowBits, FitsWord}
@@ -13,7 +13,7 @@ use Rattle.memory_access.specs.declared.MemoryAccessKind.the-variants.{Read, Wr
 use Rattle.memory_access.specs.declared.Decoded.the-variants.{Access, NoSyndrome}
 use Rattle.memory_access.specs.Syndrome.{isv, decodeAccess}
 use Rattle.memory_access.specs.Transfer.{extendReadResult}
-use Rattle.memory_access.proofs.Laws.{extended-fits}
+use Rattle.memory_access.proofs.Laws.{extended-fits, extended-zero}
 use Rattle.stage2_range.specs.declared.MemoryAccessRegion.{MemoryAccessRegion}
 use Rattle.stage2_range.specs.declared.RegionFound.{RegionFound}
 use Rattle.stage2_range.specs.Registry.{findRegion}
@@ -29,7 +29,7 @@ use Rattle.core_answers.specs.declared.TrapStep.{TrapStep}
 use Rattle.core_answers.specs.Answers.{trapNumber, isForwarded, withoutValues, refusedTrap}
 use Rattle.core_answers.specs.declared.CoreError.{CoreError}
 use Rattle.data_abort.specs.declared.TrapRegisters.{TrapRegisters}
-use Rattle.data_abort.specs.DataAbort.{iss, accessBy, offsetIn, pageRead, notHandled, injectionDue, wordRead, done, emulateAccess, tryMemoryAccess, withEc, injected, injectDataAbort, stepBy, handleDataAbort}
+use Rattle.data_abort.specs.DataAbort.{iss, accessBy, absentHandler, offsetIn, pageRead, notHandled, injectionDue, wordRead, done, emulateAccess, tryMemoryAccess, withEc, injected, injectDataAbort, stepBy, handleDataAbort}
 use Rattle.data_abort.specs.declared.AccessOutcome.{AccessOutcome}
 use Rattle.data_abort.specs.declared.AccessOutcome.the-variants.{Loaded, Stored, Unhandled}
 use native.Mathlib.Omega.{arith}
@@ -40,8 +40,8 @@ pub class-replaced : (esr class : ℕ) → class < 2 ^ 6
 class-replaced esr class h = (replaced-field esr 26 6 class h, replaced-below esr 26 6 class h, replaced-above esr 26 6 class h)
 
 -- the step of a handled access
-abbrev pub handled : TrapRegisters → MemoryAccessKind → MemoryAccess → ℕ → Core → ℕ → TrapStep
-handled trap kind access offset core counter = stepBy (done kind access offset counter) core counter trap
+abbrev pub handled : TrapRegisters → MemoryAccessKind → Bool → MemoryAccess → ℕ → Core → ℕ → TrapStep
+handled trap kind absent access offset core counter = stepBy (done kind absent access offset counter) core counter trap
 
 -- A data abort goes by what comes of its access: nothing handles it exactly where an injection is due.
 module _ (regions : List MemoryAccessRegion) (core : Core) (counter : ℕ) (trap : TrapRegisters) where
@@ -51,12 +51,15 @@ module _ (regions : List MemoryAccessRegion) (core : Core) (counter : ℕ) (trap
   abbrev found : RegionFound
   found = findRegion regions (access .ipa)
 
+  abbrev absent : Bool
+  absent = absentHandler (access .kind) found
+
   pub by-outcome : handleDataAbort regions core counter trap ≡ stepBy (tryMemoryAccess regions core counter trap) core counter trap
   unfolding handleDataAbort
   by-outcome = refl
 
   pub by-cases : handleDataAbort regions core counter trap
-      ≡ cond (injectionDue regions core counter trap) (injectDataAbort core counter trap) (handled trap (access .kind) access (offsetIn found) core counter)
+      ≡ cond (injectionDue regions core counter trap) (injectDataAbort core counter trap) (handled trap (access .kind) absent access (offsetIn found) core counter)
   unfolding handleDataAbort tryMemoryAccess
   by-cases = cond-map (λ o. stepBy o core counter trap) (injectionDue regions core counter trap) _ _
 
@@ -64,7 +67,7 @@ module _ (regions : List MemoryAccessRegion) (core : Core) (counter : ℕ) (trap
   abbrev triedBy : Bool → AccessOutcome
   triedBy valid =
       cond (not valid || notHandled (access .kind) found access (readValue (readGpr core (access .«register_index»))) counter) Unhandled
-      (done (access .kind) access (offsetIn found) counter)
+      (done (access .kind) absent access (offsetIn found) counter)
 
   -- the access is tried as it is decoded: the region that has its address, and what its register holds, decide
   pub access-tried : (a : MemoryAccess) → decodeAccess (iss (trap .esr)) (trap .fipa) (trap .far) ≡ Access a
@@ -86,9 +89,10 @@ module _ (regions : List MemoryAccessRegion) (core : Core) (counter : ℕ) (trap
       go true e = let z : _≡_ {A = ℕ} 0 1 = cc in absurd (omega arith)
       go false e = refl
 
-  handled-answer : (kind : MemoryAccessKind) → handled trap kind access (offsetIn found) core counter .result .answer ≡ AccessHandled kind
-  handled-answer Read = refl
-  handled-answer Write = refl
+  handled-answer : (kind : MemoryAccessKind) (absent : Bool) → handled trap kind absent access (offsetIn found) core counter .result .answer ≡ AccessHandled kind
+  handled-answer Read true = refl
+  handled-answer Read false = refl
+  handled-answer Write absent = refl
 
   -- each answer exactly in its case: the abort where an injection is due, 13 where VBAR is 0 then, else the access in its direction
   pub abort-answer : handleDataAbort regions core counter trap .result .answer
@@ -98,7 +102,7 @@ module _ (regions : List MemoryAccessRegion) (core : Core) (counter : ℕ) (trap
       ap (λ (s : TrapStep). s .result .answer) by-cases
       ∙ cond-map (λ (s : TrapStep). s .result .answer) (injectionDue regions core counter trap) _ _
       ∙ ap₂ (cond (injectionDue regions core counter trap)) (cond-map (λ (s : TrapStep). s .result .answer) (eqb (trap .vbar) 0) _ _)
-      (handled-answer (access .kind))
+      (handled-answer (access .kind) absent)
 
   -- 13 exactly where an injection is due and VBAR is 0
   pub abort-number : trapNumber (handleDataAbort regions core counter trap .result .answer)
@@ -115,16 +119,17 @@ module _ (regions : List MemoryAccessRegion) (core : Core) (counter : ℕ) (trap
   abbrev Kept : TrapStep → Type 0
   Kept step = (trapNumber (step .result .answer) ≡ 0 → ⊥) → (error : CoreError) × (step ≡ refusedTrap error core counter)
 
-  handled-accepted : (kind : MemoryAccessKind) (access : MemoryAccess) (offset : ℕ) → Kept (handled trap kind access offset core counter)
-  handled-accepted Read access offset h = absurd (h refl)
-  handled-accepted Write access offset h = absurd (h refl)
+  handled-accepted : (kind : MemoryAccessKind) (absent : Bool) (access : MemoryAccess) (offset : ℕ) → Kept (handled trap kind absent access offset core counter)
+  handled-accepted Read true access offset h = absurd (h refl)
+  handled-accepted Read false access offset h = absurd (h refl)
+  handled-accepted Write absent access offset h = absurd (h refl)
 
   pub abort-refused : Kept (handleDataAbort regions core counter trap)
   unfolding injectDataAbort
   abort-refused =
       rw (by-cases regions core counter trap) (cond-all Kept (injectionDue regions core counter trap) _ _
       (cond-all Kept (eqb (trap .vbar) 0) _ _ (λ h. (NoGuestVector, refl)) (λ h. absurd (h refl)))
-      (handled-accepted (accessBy trap .kind) (accessBy trap) _))
+      (handled-accepted (accessBy trap .kind) _ (accessBy trap) _))
 
 -- What holds of the core and the counter as they were, after a handled load, after a handled store and after an injection, holds after a
 -- data abort.
@@ -135,12 +140,14 @@ module _ (P : Core → ℕ → Type 0) (core : Core) (counter : ℕ) (same : P c
   abbrev After : TrapStep → Type 0
   After step = P (step .core) (step .counter)
 
-  after-handled : (trap : TrapRegisters) (kind : MemoryAccessKind) (access : MemoryAccess) (offset : ℕ)
-      → After (handled trap kind access offset core counter)
-  unfolding readFilteredMmio
-  after-handled trap Read access offset =
+  after-handled : (trap : TrapRegisters) (kind : MemoryAccessKind) (absent : Bool) (access : MemoryAccess) (offset : ℕ)
+      → After (handled trap kind absent access offset core counter)
+  unfolding readFilteredMmio counterAfter
+  after-handled trap Read true access offset =
+      subst (λ v. P (advancePc (writeGpr core (access .«register_index») v .core)) counter) (extended-zero access) (load access 0 false)
+  after-handled trap Read false access offset =
       load access (wordRead (readFilteredMmio (pageRead access offset) counter .result)) (loadsCounter (pageRead access offset))
-  after-handled trap Write access offset = store
+  after-handled trap Write absent access offset = store
 
   pub abort-all : (regions : List MemoryAccessRegion) (trap : TrapRegisters) → P (injected core trap) counter
       → After (handleDataAbort regions core counter trap)
@@ -148,7 +155,7 @@ module _ (P : Core → ℕ → Type 0) (core : Core) (counter : ℕ) (same : P c
   abort-all regions trap injection =
       rw (by-cases regions core counter trap)
       (cond-all After (injectionDue regions core counter trap) _ _ (cond-all After (eqb (trap .vbar) 0) _ _ same injection)
-      (after-handled trap (accessBy trap .kind) (accessBy trap) _))
+      (after-handled trap (accessBy trap .kind) _ (accessBy trap) _))
 
 -- a data abort leaves what the core waits for
 pub abort-wait : (regions : List MemoryAccessRegion) (core : Core) (counter : ℕ) (trap : TrapRegisters)

@@ -12,7 +12,7 @@ use Rattle.memory_access.specs.Transfer.{extendReadResult, storeValue}
 use Rattle.stage2_range.specs.declared.MemoryAccessRegion.{MemoryAccessRegion}
 use Rattle.stage2_range.specs.declared.MemoryAccessHandlerMatch.{MemoryAccessHandlerMatch}
 use Rattle.stage2_range.specs.declared.MemoryHandler.{MemoryHandler}
-use Rattle.stage2_range.specs.declared.MemoryHandler.the-variants.{Absent, FilteredMmio}
+use Rattle.stage2_range.specs.declared.MemoryHandler.the-variants.{Absent, FilteredMmio, Fault}
 use Rattle.stage2_range.specs.declared.MemoryReadAccess.{MemoryReadAccess}
 use Rattle.stage2_range.specs.declared.MemoryReadResult.{MemoryReadResult}
 use Rattle.stage2_range.specs.declared.MemoryReadResult.the-variants as read
@@ -21,6 +21,7 @@ use Rattle.stage2_range.specs.declared.MemoryWriteResult.{MemoryWriteResult}
 use Rattle.stage2_range.specs.declared.MemoryWriteResult.the-variants as write
 use Rattle.stage2_range.specs.declared.RegionFound.{RegionFound}
 use Rattle.stage2_range.specs.declared.RegionFound.the-variants.{Nothing, Match}
+use Rattle.stage2_range.specs.Handlers.{sameHandler}
 use Rattle.stage2_range.specs.Registry.{findRegion}
 use Rattle.exceptions.specs.declared.Core.{Core}
 use Rattle.core_answers.specs.declared.CoreError.the-variants.{NoGuestVector}
@@ -48,11 +49,6 @@ accessBy trap = accessOf (iss (trap .esr)) (trap .fipa) (trap .far)
 abbrev pub noIsv : TrapRegisters → Bool
 noIsv trap = not (isv (iss (trap .esr)))
 
--- "no region" has the address
-abbrev pub noRegion : RegionFound → Bool
-noRegion Nothing = true
-noRegion (Match found) = false
-
 -- where in the region found the address is
 abbrev pub offsetIn : RegionFound → ℕ
 offsetIn Nothing = 0
@@ -63,14 +59,10 @@ abbrev pub handlerFor : MemoryAccessKind → MemoryAccessHandlerMatch → Memory
 handlerFor Read found = found .region .handler .read
 handlerFor Write found = found .region .handler .write
 
-abbrev pub isAbsent : MemoryHandler → Bool
-isAbsent Absent = true
-isAbsent FilteredMmio = false
-
--- "an absent half", of the region found
+-- the region found has "an absent half" for the direction
 abbrev pub absentHandler : MemoryAccessKind → RegionFound → Bool
 absentHandler kind Nothing = false
-absentHandler kind (Match found) = isAbsent (handlerFor kind found)
+absentHandler kind (Match found) = sameHandler Absent (handlerFor kind found)
 
 -- what the page is asked: a load, or "a store of Rt's low bits at the access width"
 abbrev pub pageRead : MemoryAccess → ℕ → MemoryReadAccess
@@ -92,12 +84,19 @@ abbrev pub deviceFault : MemoryAccessKind → MemoryAccess → ℕ → ℕ → �
 deviceFault Read access offset rt counter = isReadFault (readFilteredMmio (pageRead access offset) counter .result)
 deviceFault Write access offset rt counter = isWriteFault (writeFilteredMmio (pageWrite access offset rt))
 
--- "no region, an absent half or a device fault", where Rt holds `rt`
-abbrev pub notHandled : MemoryAccessKind → RegionFound → MemoryAccess → ℕ → ℕ → Bool
-notHandled kind found access rt counter =
-    noRegion found || absentHandler kind found || deviceFault kind access (offsetIn found) rt counter
+-- an access faults through a handler: never through an absent one, with the page's device fault, and always through half 2, which
+-- "means fault"
+abbrev pub faultsThrough : MemoryHandler → Bool → Bool
+faultsThrough Absent device = false
+faultsThrough FilteredMmio device = device
+faultsThrough Fault device = true
 
--- "No ISV, no region, an absent half or a device fault injects"
+-- "no region", or a fault through the half for the direction, where Rt holds `rt`
+abbrev pub notHandled : MemoryAccessKind → RegionFound → MemoryAccess → ℕ → ℕ → Bool
+notHandled kind Nothing access rt counter = true
+notHandled kind (Match found) access rt counter = faultsThrough (handlerFor kind found) (deviceFault kind access (found .offset) rt counter)
+
+-- "No ISV, no region", half 2 for the direction "or a device fault injects"
 unfoldable pub injectionDue : List MemoryAccessRegion → Core → ℕ → TrapRegisters → Bool
 injectionDue regions core counter trap =
     let access = accessBy trap in
@@ -109,28 +108,32 @@ abbrev pub wordRead : MemoryReadResult → ℕ
 wordRead (read.Value word) = word
 wordRead read.Fault = 0
 
--- a handled access: what Rt takes of a load, and the counter then
-abbrev pub done : MemoryAccessKind → MemoryAccess → ℕ → ℕ → AccessOutcome
-done Read access offset counter =
+-- a handled access: what Rt takes of a load, and the counter then. "a load through an absent half gives 0 and a store is dropped"
+abbrev pub done : MemoryAccessKind → Bool → MemoryAccess → ℕ → ℕ → AccessOutcome
+done Read absent access offset counter =
     let got = readFilteredMmio (pageRead access offset) counter in
-    Loaded (access .«register_index») (extendReadResult access (wordRead (got .result))) (got .counter)
-done Write access offset counter = Stored
+    cond absent (Loaded (access .«register_index») 0 counter)
+    (Loaded (access .«register_index») (extendReadResult access (wordRead (got .result))) (got .counter))
+done Write absent access offset counter = Stored
 
 -- what comes of an access through a handler
 unfoldable pub through : MemoryAccessKind → MemoryHandler → MemoryAccess → ℕ → ℕ → ℕ → AccessOutcome
 through kind handler access offset rt counter =
-    cond (isAbsent handler || deviceFault kind access offset rt counter) Unhandled (done kind access offset counter)
+    cond (faultsThrough handler (deviceFault kind access offset rt counter)) Unhandled (done kind (sameHandler Absent handler) access offset counter)
 
 -- the same by the region found for it
 unfoldable pub emulateAccess : RegionFound → MemoryAccess → ℕ → ℕ → AccessOutcome
 emulateAccess found access rt counter =
-    cond (notHandled (access .kind) found access rt counter) Unhandled (done (access .kind) access (offsetIn found) counter)
+    let kind = access .kind in
+    cond (notHandled kind found access rt counter) Unhandled (done kind (absentHandler kind found) access (offsetIn found) counter)
 
 -- the same by the regions that are held and what the hardware says
 unfoldable pub tryMemoryAccess : List MemoryAccessRegion → Core → ℕ → TrapRegisters → AccessOutcome
 tryMemoryAccess regions core counter trap =
     let access = accessBy trap in
-    cond (injectionDue regions core counter trap) Unhandled (done (access .kind) access (offsetIn (findRegion regions (access .ipa))) counter)
+    let found = findRegion regions (access .ipa) in
+    cond (injectionDue regions core counter trap) Unhandled
+    (done (access .kind) (absentHandler (access .kind) found) access (offsetIn found) counter)
 
 -- a syndrome with another exception class, bits 31:26, and its other bits
 abbrev pub withEc : ℕ → ℕ → ℕ

@@ -150,7 +150,7 @@ fn read_through(
     let ipa = access.ipa;
     let width = access.width;
     match handler {
-        MemoryHandler::Absent => AccessOutcome::Unhandled,
+        MemoryHandler::Absent => AccessOutcome::Loaded(access.register_index, 0, counter),
         MemoryHandler::FilteredMmio => {
             let read = qemu::read_filtered_mmio(MemoryReadAccess { ipa, offset, width }, counter);
             let result = read.result;
@@ -163,6 +163,7 @@ fn read_through(
                 MemoryReadResult::Fault => AccessOutcome::Unhandled,
             }
         }
+        MemoryHandler::Fault => AccessOutcome::Unhandled,
     }
 }
 
@@ -177,7 +178,7 @@ fn write_through(
     let ipa = access.ipa;
     let width = access.width;
     match handler {
-        MemoryHandler::Absent => AccessOutcome::Unhandled,
+        MemoryHandler::Absent => AccessOutcome::Stored,
         MemoryHandler::FilteredMmio => {
             let value = access.store_value(rt);
             let write = MemoryWriteAccess {
@@ -191,6 +192,7 @@ fn write_through(
                 MemoryWriteResult::Fault => AccessOutcome::Unhandled,
             }
         }
+        MemoryHandler::Fault => AccessOutcome::Unhandled,
     }
 }
 

@@ -4,21 +4,21 @@ use mathlib.Core.Path.{_≡_, refl, sym, ap, _∙_}
 use mathlib.Core.List.{List, [], _∷_}
 use native.Mathlib.Omega.{arith}
 use native.Mathlib.Nat.{add-zero, zero-add}
+use borrow.Author.Tests.{eq-eqb}
 use lib.ListN.{length, set}
-use Rattle.lent_words.specs.Words.{wordAt, withWord, each, storeEach, wordsAt, withWords, keptCode, Lent}
-use Rattle.lent_words.proofs.RoundTrip.{words-beside, code-kept, lent-words}
+use Rattle.lent_words.specs.Words.{wordAt, withWord, each, storeEach, wordsAt, withWords, Lent}
+use Rattle.lent_words.proofs.RoundTrip.{words-beside, lent-words}
 use Rattle.lent_words.proofs.InPlace.{word-rewritten, words-rewritten, words-again, one-stored, store-kept, store-again, store-beside, word-again, word-comm}
 use Rattle.stage2_range.specs.declared.Stage2Range.{Stage2Range}
 use Rattle.stage2_range.specs.declared.MemoryAccessRegion.{MemoryAccessRegion}
 use Rattle.stage2_range.specs.Ranges.{rangeWords}
-use Rattle.stage2_range.specs.Handlers.{handlers, handlerOf}
-use Rattle.stage2_range.proofs.Handlers.{named-number}
+use Rattle.stage2_range.specs.Handlers.{handlerOf, handlerNumber}
 use Rattle.lent_policy.specs.Layout.{policySize, rangeStart, allowedCountAt, regionStart, rangeAt, withRange, regionAt, keptHandler, regionStored, withRegion, withAllowed, readWord, writeWord}
 use Rattle.lent_policy.proofs.Records.{range-beside}
 
 -- to write the handler that a word means keeps the word
 handler-kept : (word : ℕ) → keptHandler word (handlerOf word) ≡ word
-handler-kept word = ap (keptCode (length handlers) word) (named-number word) ∙ code-kept (length handlers) word
+handler-kept word = rw (eq-eqb (handlerNumber (handlerOf word)) (handlerNumber (handlerOf word)) refl)
 
 module _ (b : List ℕ) (k : ℕ) (lent : Lent policySize b) where
   -- to store the range that stands at a place changes nothing

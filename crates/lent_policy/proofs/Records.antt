@@ -1,23 +1,24 @@
 -- Laws of ranges and regions in lent bytes: what was stored is read back, and what stands beside it is as it was. Assumes nothing.
 use Prim.Native.Nat.{ℕ, _+_, _<_}
 use mathlib.Core.Path.{_≡_, refl, ap, _∙_}
+use mathlib.Core.Bool.{Bool, true, false, cond}
 use mathlib.Core.List.{List, [], _∷_}
 use native.Mathlib.Omega.{arith}
 use native.Mathlib.Nat.{add-zero, zero-add}
-use lib.ListN.{length, getD, List·getD-eq-default}
+use lib.ListN.{length, getD}
+use Rattle.lists.proofs.Laws.{cond-all}
 use Rattle.lent_words.specs.Words.{wordAt, each, FitsWord, Bytes, Lent}
 use Rattle.lent_words.proofs.Words.{getD-each}
-use Rattle.lent_words.proofs.RoundTrip.{Every, words-beside, word-fits, code-fits, meaning-back}
+use Rattle.lent_words.proofs.RoundTrip.{Every, words-beside, word-fits}
 use Rattle.lent_words.proofs.Records.{InWords, record-written, record-kept}
 use Rattle.stage2_range.specs.declared.Stage2Range.{Stage2Range}
 use Rattle.stage2_range.specs.declared.MemoryAccessRegion.{MemoryAccessRegion}
 use Rattle.stage2_range.specs.declared.MemoryHandler.{MemoryHandler}
-use Rattle.stage2_range.specs.declared.MemoryHandler.the-variants.{Absent}
 use Rattle.stage2_range.specs.Ranges.{rangeOf, rangeWords}
-use Rattle.stage2_range.specs.Handlers.{handlers, handlerOf, handlerNumber}
+use Rattle.stage2_range.specs.Handlers.{handlerOf, handlerNumber, sameHandler}
 use Rattle.stage2_range.specs.Registry.{regionOf}
 use Rattle.stage2_range.proofs.Ranges.{end-fits}
-use Rattle.stage2_range.proofs.Handlers.{handler-code}
+use Rattle.stage2_range.proofs.Handlers.{handler-code, same-handler}
 use Rattle.lent_policy.specs.Layout.{policySize, rangeStart, allowedCountAt, regionStart, regionCountAt, rangeAt, withRange, regionAt, keptHandler, regionStored, withRegion, readWord, writeWord}
 
 -- one of the thirty-two ranges
@@ -30,9 +31,11 @@ region-of policy k d h = getD-each (regionAt policy) 0 16 k d h ∙ ap (regionAt
 
 -- a handler that was written is read back
 pub handler-back : (old : ℕ) (h : MemoryHandler) → handlerOf (keptHandler old h) ≡ h
-handler-back old h =
-    meaning-back handlerOf (length handlers) (λ w l. List·getD-eq-default handlers Absent {n = w} l) old (handlerNumber h) (handler-code h .0)
-    ∙ handler-code h .1
+handler-back old h = go (sameHandler (handlerOf old) h) refl
+  where
+    go : (same : Bool) → sameHandler (handlerOf old) h ≡ same → handlerOf (cond same old (handlerNumber h)) ≡ h
+    go true e = same-handler (handlerOf old) h e
+    go false e = handler-code h .1
 
 -- the range that words make
 abbrev pub rangeFrom : List ℕ → Stage2Range
@@ -102,7 +105,8 @@ module _ (b : List ℕ) (k : ℕ) where
       ∙ rw (handler-back (wordAt b (regionStart k + readWord)) (r .handler .read), handler-back (wordAt b (regionStart k + writeWord)) (r .handler .write))
     where
       code : (h : MemoryHandler) (i : ℕ) → FitsWord (keptHandler (wordAt b i) h)
-      code h i = code-fits (length handlers) (wordAt b i) (handlerNumber h) (word-fits b i (lent .bytes)) (omega (arith, handler-code h))
+      code h i =
+          cond-all FitsWord (sameHandler (handlerOf (wordAt b i)) h) (wordAt b i) (handlerNumber h) (word-fits b i (lent .bytes)) (omega (arith, handler-code h))
 
   -- the other ranges are as they were
   pub range-beside : (r : Stage2Range) (k′ : ℕ) → (k ≡ k′ → ⊥) → rangeAt (withRange b k r) k′ ≡ rangeAt b k′

@@ -1,14 +1,14 @@
 -- Where the words of a policy stand in the bytes that a host lends. Any bytes are a policy. Assumes nothing.
 use Prim.Native.Nat.{ℕ, _+_, _*_}
+use mathlib.Core.Bool.{cond}
 use mathlib.Core.List.{List, [], _∷_}
-use lib.ListN.{length}
-use Rattle.lent_words.specs.Words.{wordAt, withWord, each, storeEach, withWords, keptCode}
+use Rattle.lent_words.specs.Words.{wordAt, withWord, each, storeEach, withWords}
 use Rattle.stage2_range.specs.declared.PageRange.{PageRange}
 use Rattle.stage2_range.specs.declared.Stage2Range.{Stage2Range}
 use Rattle.stage2_range.specs.declared.MemoryAccessRegion.{MemoryAccessRegion}
 use Rattle.stage2_range.specs.declared.MemoryHandler.{MemoryHandler}
 use Rattle.stage2_range.specs.Ranges.{rangeWords}
-use Rattle.stage2_range.specs.Handlers.{handlers, handlerOf, handlerNumber}
+use Rattle.stage2_range.specs.Handlers.{handlerOf, handlerNumber, sameHandler}
 use Rattle.stage2.specs.declared.Policy.{Policy}
 
 -- the words of a range and of a region, past the base: size and end, then a range's attributes, or the codes of a region's handlers
@@ -34,8 +34,8 @@ rangeStart k = 4 * k
 abbrev pub allowedCountAt : ℕ
 allowedCountAt = rangeStart 32
 
--- A region is 5 words: base, size, end, and the codes of its read and its write handler, an unknown one absent. The 16 stand after the
--- count of the ranges, and their count after them.
+-- A region is 5 words: base, size, end, and the codes of its read and its write handler, the numbers that name them. The 16 stand after
+-- the count of the ranges, and their count after them.
 abbrev pub regionStart : ℕ → ℕ
 regionStart k = (allowedCountAt + 1) + 5 * k
 
@@ -75,7 +75,7 @@ regionAt policy k =
 
 -- the word to write for a handler: a word that means it stays
 abbrev pub keptHandler : ℕ → MemoryHandler → ℕ
-keptHandler word h = keptCode (length handlers) word (handlerNumber h)
+keptHandler word h = cond (sameHandler (handlerOf word) h) word (handlerNumber h)
 
 -- the words that a region is stored as
 abbrev pub regionStored : List ℕ → ℕ → MemoryAccessRegion → List ℕ

@@ -15,7 +15,6 @@ use lent_words::THREE_WORDS;
 use memory_access::Ipa;
 use stage2_range::MAX_ALLOWED_RANGES;
 use stage2_range::MAX_MEMORY_ACCESS_HANDLERS;
-use stage2_range::MEMORY_HANDLERS;
 use stage2_range::MemoryAccessHandler;
 use stage2_range::MemoryAccessHandlerMatch;
 use stage2_range::MemoryAccessRegion;
@@ -95,11 +94,10 @@ fn get_region(policy: &[u8; POLICY_SIZE], place: usize) -> MemoryAccessRegion
 fn kept_handler(policy: &[u8; POLICY_SIZE], at: usize, handler: MemoryHandler) -> u64
     ensures { λ r. ⌜ r ≡ keptHandler (wordAt (now (policy .entry)) at) handler ⌝ }
 {
-    lent_words::kept_code(
-        lent_words::get_word(policy, at),
-        MEMORY_HANDLERS,
-        handler.number(),
-    )
+    let code = handler.number();
+    let word = lent_words::get_word(policy, at);
+    let stored = MemoryHandler::from_number(word);
+    if stored.number() == code { word } else { code }
 }
 
 // Stores a region.

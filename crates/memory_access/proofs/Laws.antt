@@ -3,7 +3,7 @@ use mathlib.Core.Path.{_≡_, refl, ap, ap₂, sym, _∙_}
 use mathlib.Core.Bool.{Bool, true, false, cond}
 use mathlib.Core.List.{[], _∷_}
 use Prim.Native.Nat.{ℕ, zero, suc, _+_, _*_, _/_, _%_, _^_, _-_, _<_, _≤_}
-use native.Mathlib.Nat.{zero-mul, one-mul, mod-lt, mod-eq-of-lt, pow-suc}
+use native.Mathlib.Nat.{zero-mul, one-mul, zero-div, zero-mod, mod-lt, mod-eq-of-lt, pow-suc}
 use native.Mathlib.Omega.{arith}
 use borrow.Author.Tests.{le-leb, lt-leb, leb-true, leb-false}
 use lib.Bits.{bitAnd, bitOr, and-mask, or-shifted}
@@ -150,3 +150,13 @@ extended-fits a v =
     let extended : ℕ = (lowBits w v + (2 ^ 64 - 2 ^ w)) % 2 ^ 64 in
     let whole = cond-all FitsWord (a .«sign_extend») _ _ (cond-all FitsWord (bitAt v (w - 1)) extended (lowBits w v) (omega arith) narrow) narrow in
     cond-all FitsWord (a .«register_width_64») _ _ whole (low 32 _ (lit≤ tt))
+
+-- of the value 0 it is 0, whatever the access
+pub extended-zero : (a : MemoryAccess) → extendReadResult a 0 ≡ 0
+unfolding extendReadResult atRegisterWidth loaded signExtend lowBits bitAt bitsAt
+extended-zero a =
+    let w = bitsOf (a .width) in
+    let none : (n : ℕ) → 0 % 2 ^ n ≡ 0 = λ n. zero-mod (2 ^ n) in
+    let clear : 0 / 2 ^ (w - 1) ≡ 0 = zero-div (2 ^ (w - 1)) in
+    let whole : loaded w (a .«sign_extend») 0 ≡ 0 = rw clear (cond-all (λ v. v ≡ 0) (a .«sign_extend») _ _ (none w) (none w)) in
+    rw whole (cond-all (λ v. v ≡ 0) (a .«register_width_64») _ _ refl (none 32))

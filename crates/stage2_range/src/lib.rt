@@ -38,14 +38,18 @@ pub enum Stage2Result {
     Refused(Stage2ConfigError),
 }
 
-// Who serves the loads or the stores of a region (document 01: a half), where RITM has an optional function: nobody, or the filtered MMIO page.
+// Who serves the loads or the stores of a region (document 01: a half), where RITM has an optional function.
 pub enum MemoryHandler {
+    // Nobody, quietly: a load gives 0 and a store is dropped.
     Absent,
+    // The filtered MMIO page.
     FilteredMmio,
+    // Nobody: the guest gets the abort, as it does in RITM where the function is missing.
+    Fault,
 }
 
 // How many handlers there are: the numbers below name one each.
-pub const MEMORY_HANDLERS: u64 = 2;
+pub const MEMORY_HANDLERS: u64 = 3;
 
 pub struct MemoryAccessHandler {
     pub read: MemoryHandler,
@@ -181,13 +185,14 @@ impl AlignedUp {
 }
 
 impl MemoryHandler {
-    // The handler that a number names: the absent one where it names no other.
+    // The handler that a number names: the fault where it names no other.
     pub fn from_number(number: u64) -> Self
         ensures { λ r. ⌜ r ≡ handlerOf number ⌝ }
     {
         match number {
+            0 => MemoryHandler::Absent,
             1 => MemoryHandler::FilteredMmio,
-            _ => MemoryHandler::Absent,
+            _ => MemoryHandler::Fault,
         }
     }
 
@@ -198,6 +203,7 @@ impl MemoryHandler {
         match self {
             MemoryHandler::Absent => 0,
             MemoryHandler::FilteredMmio => 1,
+            MemoryHandler::Fault => 2,
         }
     }
 }

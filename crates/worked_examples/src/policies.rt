@@ -92,6 +92,7 @@ pub(crate) fn rows() {
     handle(1, 16, 0, 1);
     handle(1, 16, 0x0F00_0000, 1);
     handle(0, 0, 0x1000, 2);
+    handle(0, 0, 0x1000, 3);
     columns(b"find: handled IPA | found offset, lent: found offset\n");
     // Bench: the last byte of a region, and the first past it.
     find(1, 0x0F00_0FFF);

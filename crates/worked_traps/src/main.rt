@@ -6,6 +6,7 @@ mod traps;
 
 fn main() {
     traps::rows();
+    traps::handlers();
     traps::calls();
     replies::rows();
 }

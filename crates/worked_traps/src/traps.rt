@@ -82,6 +82,20 @@ fn trap_again(regions: u64, x: u64, trap: TrapRegisters) {
     end_row();
 }
 
+// A trap in the page at 0x0F000000 with these handlers, 7 in x0 to x30 and the counter 9.
+fn through(read: u64, write: u64, trap: TrapRegisters) {
+    number(read);
+    number(write);
+    number(trap.esr);
+    number(trap.far);
+    number(trap.vbar);
+    all_given();
+    let built = Policy::new().handle_range(0x0F00_0000, 0x1000, read, write);
+    let policy = built.policy;
+    found_trap(hypervisor::trap(policy, saved_cores(7), 9, 0, trap));
+    end_row();
+}
+
 // What a call hands out, and the core's own x0 then.
 fn found_call(trapped: Trapped) {
     let result = trapped.result;
@@ -105,12 +119,14 @@ fn call(x: u64) {
     end_row();
 }
 
-// ESR_EL2 of an HVC and of an SMC, of a 64-bit load into x5, and of 64-bit stores from x5 and from Rt 31.
+// ESR_EL2 of an HVC and of an SMC, of a 64-bit load and a 32-bit load into x5, and of 64-bit stores from x5 and from Rt 31.
 pub const ESR_HVC: u64 = 0x5800_0000;
 
 pub const ESR_SMC: u64 = 0x5C00_0000;
 
 const ESR_LOAD: u64 = 0x93C5_8000;
+
+const ESR_LOAD_32: u64 = 0x9385_0000;
 
 const ESR_STORE: u64 = 0x93C5_8040;
 
@@ -135,6 +151,22 @@ pub(crate) fn rows() {
     // A store at offset 8, where each of x0 to x30 holds the word that the page takes: Rt 31 reads 0, which is another, and faults.
     trap(1, STORED_WORD, trap_at(ESR_STORE, 8, 0x8_0000));
     trap(1, STORED_WORD, trap_at(ESR_STORE_RT_31, 8, 0x8_0000));
+}
+
+pub(crate) fn handlers() {
+    columns(
+        b"access: read write ESR FAR VBAR | answer kind counter x5 ELR SPSR ESR_EL1 SPSR_EL1\n",
+    );
+    // Through the absent handler, at any width and offset; a store without a vector.
+    through(0, 1, trap_at(ESR_LOAD, 0, 0x8_0000));
+    through(0, 1, trap_at(ESR_LOAD_32, 3, 0x8_0000));
+    through(2, 0, trap_at(ESR_STORE, 0, 0));
+    // The counter word, through the absent handler and through the filtered MMIO page.
+    through(0, 1, trap_at(ESR_LOAD, 0x10, 0));
+    through(1, 0, trap_at(ESR_LOAD, 0x10, 0));
+    // Through the fault, with a vector and without.
+    through(2, 0, trap_at(ESR_LOAD, 0, 0x8_0000));
+    through(2, 0, trap_at(ESR_LOAD, 0, 0));
 }
 
 pub(crate) fn calls() {

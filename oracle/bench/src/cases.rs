@@ -23,7 +23,7 @@ const fn case(name: &'static str, held: &'static str, make: fn() -> Sides) -> Ca
     Case { name, held, make }
 }
 
-pub static CASES: [Case; 62] = [
+pub static CASES: [Case; 64] = [
     case("trap_load_1", "1 region", || traps::load(1)),
     case("trap_load_8", "8 regions, the last", || traps::load(8)),
     case("trap_load_16", "16 regions, the last", || traps::load(16)),
@@ -82,6 +82,8 @@ pub static CASES: [Case; 62] = [
     case("reply_4", "the reply of hvc_4 alone", traps::reply_4),
     case("reply_18", "the reply of hvc_18 alone", traps::reply_18),
     case("trap_load_core_7", "trap_load_1 on core 7", traps::load_on_core_7),
+    case("trap_quiet_load", "trap_load_1 with absent halves", traps::quiet_load),
+    case("trap_quiet_store", "trap_store_1 with absent halves", traps::quiet_store),
     case("save", "", traps::save),
     case("fresh_policy", "8 ranges, 8 regions before", policy::fresh_policy),
     case("fresh_cores", "", traps::fresh_cores),

@@ -8,7 +8,7 @@ use reference::stage2::{
     MemoryAccessHandler, MemoryAccessHandlerMatch, MemoryAccessHandlerRegistry, Stage2Builder, Stage2Config,
     Stage2ConfigError,
 };
-use ritm::{Policy, ffi};
+use ritm::{MemoryHandler, Policy, ffi};
 
 const PAGE_SIZE: u64 = 0x1000;
 /// Ranges and regions stand one page apart from each other.
@@ -43,8 +43,14 @@ fn bases(ranges: u64, regions: u64) -> (impl Iterator<Item = u64>, impl Iterator
     ((0..ranges).map(|k| FIRST_ALLOWED + STEP * k), (0..regions).map(|k| FIRST_REGION + STEP * k))
 }
 
-/// The port's policy with so many ranges and regions.
+/// The port's policy with so many ranges, and so many regions of the filtered MMIO page.
 pub fn port_with(ranges: u64, regions: u64) -> ffi::Policy {
+    port_served_by(MemoryHandler::FilteredMmio, ranges, regions)
+}
+
+/// The port's policy with so many ranges and regions, whose loads and stores this handler serves.
+pub fn port_served_by(handler: MemoryHandler, ranges: u64, regions: u64) -> ffi::Policy {
+    let half = handler as u64;
     let mut policy = ffi::Policy::ZERO;
     assert_eq!(ffi::ritm_fresh_policy(&mut policy), 0, "a fresh policy");
     let (ranges, regions) = bases(ranges, regions);
@@ -52,7 +58,7 @@ pub fn port_with(ranges: u64, regions: u64) -> ffi::Policy {
         assert_eq!(ffi::ritm_allow_range(&mut policy, base, PAGE_SIZE, ATTRIBUTES), 0, "a range fits");
     }
     for base in regions {
-        assert_eq!(ffi::ritm_handle_range(&mut policy, base, PAGE_SIZE, 1, 1), 0, "a region fits");
+        assert_eq!(ffi::ritm_handle_range(&mut policy, base, PAGE_SIZE, half, half), 0, "a region fits");
     }
     policy
 }
@@ -113,7 +119,7 @@ impl State for Builder {
 
     fn words(&self) -> Vec<u64> {
         let regions = self.builder.regions().flat_map(|(region, end)| {
-            let halves = [region.handler.read.is_some().into(), region.handler.write.is_some().into()];
+            let halves = oracle::halves(&region.handler).map(|half| half as u64);
             [region.base_ipa, region.size as u64, end].into_iter().chain(halves)
         });
         self.builder.ranges().flatten().chain(regions).collect()

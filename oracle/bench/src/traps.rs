@@ -8,7 +8,7 @@ use reference::exceptions::{GuestRegisterStateRef, GuestRegisters};
 use reference::hypervisor;
 use reference::oracle::{self, Core, Trap};
 use reference::platform::qemu;
-use ritm::ffi;
+use ritm::{MemoryHandler, ffi};
 use std::array;
 
 /// The register of the guest's loads and stores.
@@ -213,6 +213,13 @@ impl Guest {
         Sides::port_alone(trap(self.port(0)))
     }
 
+    /// The port's trap where both halves are absent: RITM has no handler that serves quietly.
+    fn quiet(self) -> Sides {
+        let mut state = self.port(0);
+        state.policy = Box::leak(Box::new(policy::port_served_by(MemoryHandler::Absent, 0, self.regions)));
+        Sides::port_alone(trap(state)).repeated()
+    }
+
     /// The port's reply alone, to a core that waits for it.
     fn reply_alone(self) -> Sides {
         let mut state = self.port(0);
@@ -343,6 +350,16 @@ pub fn reply_18() -> Sides {
 pub fn load_on_core_7() -> Sides {
     let guest = Guest::accessing(LOAD, 1, policy::last_region(1) + AT_CONSTANT, LOAD_HANDLED);
     Sides::port_alone(trap(guest.port(7))).repeated()
+}
+
+/// The load of [`load`] in 1 region with absent halves, which gives 0.
+pub fn quiet_load() -> Sides {
+    Guest::accessing(LOAD, 1, policy::last_region(1) + AT_CONSTANT, LOAD_HANDLED).quiet()
+}
+
+/// The store of [`store`] in 1 region with absent halves, which is dropped.
+pub fn quiet_store() -> Sides {
+    Guest::accessing(STORE, 1, policy::last_region(1) + AT_STORED, STORE_HANDLED).quiet()
 }
 
 pub fn save() -> Sides {

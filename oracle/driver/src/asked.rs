@@ -2,12 +2,13 @@
 //!
 //! Agreement is the first case: RITM is asked the same call, and what it answers and then holds is the port's. Outside
 //! document 01's domain RITM has no such call, panics, or answers with a wrapped sum. A change that makes the port
-//! depart from the Rust adds its case here: the function identifier is one (document 02's Ask 3).
+//! depart from the Rust adds its case here: the function identifier is one (document 02's Ask 3), the absent half
+//! another (Ask 4).
 
 use crate::call::{Answer, Call};
 use crate::function::{self, Function};
 use crate::ritm_rust::{CORES, DATA_ABORT, HVC, RitmRust, SMC, class, is_guest_call};
-use reference::oracle::{self, Reply, Trap};
+use reference::oracle::{self, Half, Reply, Trap};
 use ritm::MemoryHandler;
 use std::{fmt, mem};
 
@@ -30,8 +31,12 @@ pub enum Asked {
 /// How RITM's answer, and the state in which the call leaves RITM, are read as the port's.
 #[derive(Clone, Copy, Debug, Eq, PartialEq)]
 pub enum Reading {
-    /// As they are.
+    /// As they are. So is a call that handles a range with an absent half, for which RITM is given a function: no
+    /// answer to that call, and no field of the region but the half, goes by what serves it.
     Same,
+    /// As they are, but this is no agreement: the access goes through an absent half, where RITM has our function that
+    /// serves quietly. RITM's own case of an absent half is a missing function, at which it injects the abort.
+    Quiet,
     /// A guest's call, HVC or SMC, whose x0 has bits set that the port does not read as RITM does: 63:32 or 16. RITM
     /// takes the call with the function identifier in this core's x0, which is then put back. The hint, which RITM does
     /// not have, is added.
@@ -47,6 +52,7 @@ impl Reading {
                 let x0 = rust.cores[core].x[0];
                 if function::agrees(x0) { Self::Same } else { Self::ByIdentifier { core, function: Function::of(x0) } }
             }
+            Call::Trap { trap, .. } if rust.half(trap) == Some(Half::Quiet) => Self::Quiet,
             _ => Self::Same,
         }
     }
@@ -66,7 +72,8 @@ impl Asked {
         matches!(self, Self::Ritm { .. })
     }
 
-    /// Whether agreement is promised: RITM is asked the call as it stands, and answers as the port does.
+    /// Whether agreement is promised: RITM is asked the call as it stands, with what it has itself, and answers as the
+    /// port does.
     pub fn in_agreement(&self) -> bool {
         matches!(self, Self::Ritm { read: Reading::Same, .. })
     }
@@ -76,7 +83,7 @@ impl Asked {
     pub fn answer(&self, rust: &mut RitmRust) -> Answer {
         match self {
             Self::Nothing { due } => Answer::number(*due),
-            Self::Ritm { call, read: Reading::Same } => rust.take(call),
+            Self::Ritm { call, read: Reading::Same | Reading::Quiet } => rust.take(call),
             Self::Ritm { call, read: Reading::ByIdentifier { core, function } } => {
                 let x0 = mem::replace(&mut rust.cores[*core].x[0], function.identifier);
                 let answer = rust.take(call);
@@ -93,6 +100,7 @@ impl fmt::Display for Asked {
         match self {
             Self::Nothing { .. } => f.write_str("due"),
             Self::Ritm { read: Reading::Same, .. } => f.write_str("RITM"),
+            Self::Ritm { read: Reading::Quiet, .. } => f.write_str("RITM, given a handler that serves quietly"),
             Self::Ritm { read: Reading::ByIdentifier { function, .. }, .. } => {
                 write!(f, "RITM, asked with x0 {:#x}", function.identifier)
             }
@@ -161,21 +169,56 @@ mod tests {
     /// Bits 63:32 and 16 of x0.
     const ZERO_IN_AGREEMENT: u64 = 0xFFFF_FFFF_0001_0000;
 
-    /// The x0 of a guest's call that is not refused.
-    fn x0_of(call: &Call, rust: &RitmRust) -> Option<u64> {
-        match *call {
-            Call::Trap { core, trap } if is_guest_call(trap) => Some(rust.cores[core as usize].x[0]),
-            _ => None,
+    /// How an answer is to be read, by the bits of x0 and by the port's words.
+    #[derive(Debug, Eq, Ord, PartialEq, PartialOrd)]
+    enum Due {
+        /// A guest's call.
+        AsItStands,
+        ByIdentifier,
+        /// An access through a half with code 0, with a vector or with none.
+        Quiet {
+            vector: bool,
+        },
+        /// An access through a half with another code.
+        Through(u64),
+        /// Any other call.
+        Other,
+    }
+
+    impl Due {
+        /// Of a call that was not refused; a trap has changed neither x0 nor the policy.
+        fn of(call: &Call, port: &Port) -> Self {
+            match *call {
+                Call::Trap { core, trap } if is_guest_call(trap) => {
+                    let agreement = port.x0(core) & ZERO_IN_AGREEMENT == 0;
+                    if agreement { Self::AsItStands } else { Self::ByIdentifier }
+                }
+                Call::Trap { trap, .. } => match port.half_code(trap) {
+                    Some(0) => Self::Quiet { vector: trap.vbar != 0 },
+                    Some(code) => Self::Through(code),
+                    None => Self::Other,
+                },
+                _ => Self::Other,
+            }
+        }
+
+        fn is(&self, read: Reading) -> bool {
+            match self {
+                Self::ByIdentifier => matches!(read, Reading::ByIdentifier { .. }),
+                Self::Quiet { .. } => read == Reading::Quiet,
+                _ => read == Reading::Same,
+            }
         }
     }
 
     /// Document 01's domain, by the port's answers: RITM is asked every call that returns none of the refusals outside,
     /// unchanged, and no other. Its answer is read as it is, but by the identifier where it is asked a guest's call and
-    /// bits 63:32 and 16 of x0 are not all zero. All of these are met.
+    /// bits 63:32 and 16 of x0 are not all zero, and as a quiet one where the access goes through a half with code 0.
+    /// All of these are met.
     #[test]
     fn the_domain_is_document_01s() {
         let mut met = BTreeSet::new();
-        let mut met_agreement = BTreeSet::new();
+        let mut met_due = BTreeSet::new();
         for number in 0..LISTS {
             let list = generate::list(SEED, number);
             let mut port = Port::fresh(list.counter);
@@ -187,16 +230,18 @@ mod tests {
                     assert_eq!(asked, Asked::Nothing { due: answer.number }, "{call}");
                     met.insert(answer.number);
                 } else {
-                    let x0 = x0_of(call, &rust);
-                    let agreement = x0.is_none_or(|x0| x0 & ZERO_IN_AGREEMENT == 0);
+                    let due = Due::of(call, &port);
                     let Asked::Ritm { call: asked_call, read } = &asked else { panic!("RITM is not asked: {call}") };
-                    assert_eq!((asked_call, *read == Reading::Same), (call, agreement), "{call}");
-                    met_agreement.extend(x0.map(|_| agreement));
+                    assert!(asked_call == call && due.is(*read), "{due:?}, {read:?}: {call}");
+                    assert_eq!(asked.in_agreement(), *read == Reading::Same, "{call}");
+                    met_due.insert(due);
                 }
                 assert_eq!(asked.answer(&mut rust), answer, "{call}");
             }
         }
         assert_eq!(met, BTreeSet::from(OUTSIDE));
-        assert_eq!(met_agreement, BTreeSet::from([false, true]));
+        let quiet = [false, true].map(|vector| Due::Quiet { vector });
+        let others = [Due::AsItStands, Due::ByIdentifier, Due::Through(1), Due::Through(2), Due::Other];
+        assert_eq!(met_due, quiet.into_iter().chain(others).collect());
     }
 }

@@ -6,6 +6,7 @@ use crate::mirror::Mirror;
 use crate::port::Port;
 use crate::ritm_rust::RitmRust;
 use crate::tally::Tally;
+use reference::oracle::Half;
 use std::cell::{Cell, RefCell};
 use std::panic::{self, AssertUnwindSafe};
 
@@ -23,6 +24,8 @@ pub struct Step {
     pub asked: Asked,
     /// The answer that the port owes: RITM's, as it is read, or the refusal that is due where RITM is not asked.
     pub owed: Answer,
+    /// The half that the access of a trap goes through.
+    pub half: Option<Half>,
 }
 
 /// The two sides.
@@ -47,6 +50,7 @@ impl Sides {
         let before = self.port.clone();
         let port = self.port.take(call);
         let asked = Asked::of(call, &mut self.rust);
+        let half = if let Call::Trap { trap, .. } = *call { self.rust.half(trap) } else { None };
         let owed = asked.answer(&mut self.rust);
         if asked.of_ritm() {
             self.mirror.follow(call, &self.rust);
@@ -58,7 +62,7 @@ impl Sides {
         } else {
             self.mirror.difference(&self.port)
         };
-        (Step { port, asked, owed }, what)
+        (Step { port, asked, owed, half }, what)
     }
 }
 
@@ -109,7 +113,7 @@ pub fn print(list: &List, difference: &Difference) {
     for (place, call) in list.calls.iter().take(difference.at + 1).enumerate() {
         println!("{}. {call}", place + 1);
         match panic::catch_unwind(AssertUnwindSafe(|| sides.step(call).0)) {
-            Ok(Step { port, asked, owed }) => {
+            Ok(Step { port, asked, owed, .. }) => {
                 println!("     port: {port}");
                 println!("     {asked}: {owed}");
             }

@@ -1,12 +1,12 @@
-//! What RITM does where the port refuses with 10 to 16, 18 or 20, where it goes by the function identifier, and where a
-//! sum wraps: each asked once, as a table.
+//! What RITM does where the port refuses with 10 to 16, 18 or 20, where it goes by the function identifier, where a
+//! half is absent, and where a sum wraps: each asked once, as a table.
 
 use crate::call::{Answer, Call, TRAP_HINT, TRAP_KIND, TRAP_VALUES};
 use crate::compare;
 use crate::mirror;
 use crate::port::{self, Port};
 use crate::ritm_rust::RitmRust;
-use reference::oracle::Trap;
+use reference::oracle::{Half, Trap};
 use std::collections::BTreeMap;
 use std::fmt::Write;
 use std::panic::{self, AssertUnwindSafe};
@@ -115,6 +115,10 @@ pub fn text() -> String {
     above_the_last_page(&mut table);
     table.title("Guests' calls, which the port takes by the function identifier and RITM by all of x0");
     guest_calls(&mut table);
+    table.title(
+        "Accesses through an absent half, x5 holding 7: the port serves them quietly, RITM has no handler there",
+    );
+    absent_halves(&mut table);
     table.title("Calls that both answer: sums that wrap, and what counts");
     sums(&mut table);
     limits(&mut table);
@@ -178,7 +182,7 @@ fn not_asked(table: &mut Table) {
         ("a reply on a fresh core", &[], reply(1), no_wait),
         ("a reply of kind 5", slice::from_ref(&hvc), reply(5), no_kind),
         ("a reply of kind 2 for the firmware", &firmware, reply(2), "try_handle_psci gives one value or an error"),
-        ("handle, read half 2", &[], region(2, 0), no_half),
+        ("handle, read half 3", &[], region(3, 0), no_half),
     ];
     for (asked, before, call, why) in rows {
         table.row(asked, why, &number(&Case::new(before, call).on_port()));
@@ -190,8 +194,8 @@ fn refused(table: &mut Table) {
     let aborts: [(&str, &[Call], u64, u64); 5] = [
         ("no region", &[], LOAD, PAGE),
         ("ISV clear", &[region(1, 1)], 0, PAGE),
-        ("absent read half", &[region(0, 1)], LOAD, PAGE),
-        ("absent write half", &[region(1, 0)], STORE, PAGE + 8),
+        ("read half 2", &[region(2, 1)], LOAD, PAGE),
+        ("write half 2", &[region(1, 2)], STORE, PAGE + 8),
         ("a fault of the page", &[region(1, 1)], LOAD_32, COUNTER_WORD),
     ];
     for (why, before, iss, ipa) in aborts {
@@ -219,6 +223,34 @@ fn guest_calls(table: &mut Table) {
         let hint = port.answer.words()[TRAP_HINT];
         table.row(&format!("HVC, x0 {x0:#x}"), &rust, &format!("{}, hint {hint}", handed_out(&port)));
     }
+}
+
+/// Loads and stores through an absent half, with a vector and with none. RITM is asked as it is, with a missing
+/// handler: the functions that serve quietly in the comparison are not its own.
+fn absent_halves(table: &mut Table) {
+    let rows = [
+        ("a load of 64 bits into x5 at offset 0", LOAD, PAGE),
+        ("a load of 32 bits into x5 at offset 3", LOAD_32, PAGE + 3),
+        ("a load of 64 bits into x5 at offset 16, the counter word's", LOAD, COUNTER_WORD),
+        ("a store of 64 bits from x5 at offset 8", STORE, PAGE + 8),
+    ];
+    let x5 = Call::WriteGpr { core: 0, index: 5, value: 7 };
+    for (access, iss, ipa) in rows {
+        for (vector, vbar) in [("VBAR 0x80000", VECTOR), ("VBAR 0", 0)] {
+            let through = |half: Half| {
+                let before = [region(half as u64, half as u64), saved(0), x5.clone()];
+                Case { counter: 3, ..Case::new(&before, trap(DATA_ABORT | iss, ipa, vbar)) }
+            };
+            let rust = through(Half::Missing).on_rust().map_or_else(|panic| panic, |view| accessed(&view));
+            table.row(&format!("{access}, {vector}"), &rust, &accessed(&through(Half::Quiet).on_port()));
+        }
+    }
+}
+
+/// What came of an access with x5.
+fn accessed(view: &View) -> String {
+    let kind = view.answer.words()[TRAP_KIND];
+    format!("kind {kind}, x5 {:#x}, ELR {:#x}, counter {:#x}", view.core[5], view.elr(), view.counter)
 }
 
 /// Who is handed a call, and what in place of x0.

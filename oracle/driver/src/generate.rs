@@ -298,12 +298,13 @@ impl Generator {
         self.handle_range(base, size);
     }
 
+    /// Mostly the page serves both halves, else any handler each; at times there is no such handler.
     fn handle_range(&mut self, base: u64, size: u64) {
         let known = MemoryHandler::ALL.len() as u64;
         let [read, write] = match self.random.below(40) {
             0 => [known, self.random.below(known + 1)],
             1 => [self.random.below(known + 1), self.random.pick(&[known, known + 1, u64::MAX])],
-            2..=14 => [self.random.below(known), self.random.below(known)],
+            2..=20 => [self.random.below(known), self.random.below(known)],
             _ => [MemoryHandler::FilteredMmio as u64; 2],
         };
         self.handled.push(base);

@@ -152,7 +152,7 @@ mod tests {
         let mut mirror = Mirror::fresh(5);
         let calls = [
             Call::Allow { base: 0x1000, size: 0x1000, attributes: 9 },
-            Call::Handle { base: 0x3000, size: 0x1000, read: 1, write: 0 },
+            Call::Handle { base: 0x3000, size: 0x1000, read: 2, write: 0 },
             Call::Insert { key: 1, entry_point: 2, context_id: 3 },
         ];
         for call in &calls {
@@ -166,11 +166,16 @@ mod tests {
             mirror.difference(&other)
         };
         let change_policy = |port: &mut Port, k: usize| port.policy.put(k, port.policy.get(k) ^ 0x40);
+        // A fault becomes absent, and an absent half a fault.
+        let change_half = |port: &mut Port, k: usize| port.policy.put(k, 2 - port.policy.get(k));
         let change_cores = |port: &mut Port, k: usize| port.cores.put(k, port.cores.get(k) ^ 0x40);
         let change_map = |port: &mut Port, k: usize| port.map.put(k, port.map.get(k) ^ 0x40);
         let held = (0..RANGE.len()).chain([RANGE_COUNT]).chain(REGIONS..REGIONS + REGION.len()).chain([REGION_COUNT]);
         for k in held {
             assert!(changed(k, change_policy).is_some_and(|text| text.starts_with(&policy_word(k))));
+        }
+        for k in [REGIONS + 3, REGIONS + 4] {
+            assert!(changed(k, change_half).is_some_and(|text| text.starts_with(&policy_word(k))));
         }
         for k in 0..=COUNTER {
             assert!(changed(k, change_cores).is_some_and(|text| text.starts_with(&cores_word(k))));

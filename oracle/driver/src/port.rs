@@ -1,6 +1,8 @@
 //! The proved port, through its C interface.
 
 use crate::call::{Answer, Call};
+#[cfg(test)]
+use reference::oracle::Trap;
 use ritm::ffi;
 
 /// What each word of a result buffer holds before a call, which writes it whole.
@@ -40,6 +42,23 @@ impl Port {
             }
             _ => self.take_core_call(call),
         }
+    }
+
+    /// A core's x0, for the tests.
+    #[cfg(test)]
+    pub fn x0(&self, core: u64) -> u64 {
+        self.cores.get(38 * core as usize)
+    }
+
+    /// The code of the half that a data abort's access goes through, by the port's words and the bits of the trap: for
+    /// the tests, which judge by it what the driver decides by RITM's functions.
+    #[cfg(test)]
+    pub fn half_code(&self, trap: Trap) -> Option<u64> {
+        let [class, isv, wnr] = [trap.esr >> 26 & 0x3F, trap.esr >> 24 & 1, trap.esr >> 6 & 1];
+        let ipa = trap.fipa << 12 | trap.far & 0xFFF;
+        let mut regions = (0..self.policy.get(209) as usize).map(|place| self.policy.get_all::<5>(129 + 5 * place));
+        let [.., read, write] = regions.find(|[base, _, end, ..]| (*base..*end).contains(&ipa))?;
+        (class == 0x24 && isv == 1).then_some(if wnr == 1 { write } else { read })
     }
 
     fn take_policy_call(&mut self, call: &Call) -> Answer {

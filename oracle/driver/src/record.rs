@@ -2,9 +2,9 @@
 //!
 //! A record is a line of lower-case hexadecimal numbers: its code, the arguments, the answer. A list begins with the
 //! record of its fresh states and ends with those of the state that it leads to. A call outside the agreement, at which
-//! RITM is not asked or is asked something else, is left out: it is not made, so that the state has nothing of it. Two
-//! calls have a lent form with a code of its own: a search is recorded in both, a register's write by turns, since it
-//! could not be seen a second time.
+//! RITM is not asked, is asked something else or has our quiet function, is left out: it is not made, so that the state
+//! has nothing of it. Two calls have a lent form with a code of its own: a search is recorded in both, a register's
+//! write by turns, since it could not be seen a second time.
 //!
 //! The answer of a trap is its number, the kind, the eighteen values and, last, the SVE hint: 21 fields.
 
@@ -203,9 +203,14 @@ mod tests {
         if let Call::Trap { core, trap } = *call
             && is_guest_call(trap)
         {
-            let x0 = port.cores.get(38 * core as usize);
-            assert_eq!(x0 & 0xFFFF_FFFF_0001_0000, 0, "{call}");
+            assert_eq!(port.x0(core) & 0xFFFF_FFFF_0001_0000, 0, "{call}");
         }
+    }
+
+    /// The code of the half that a trap's access goes through, and the kind of the answer.
+    fn half_and_kind(port: &Port, call: &Call, answer: &Answer) -> Option<(u64, u64)> {
+        let Call::Trap { trap, .. } = *call else { return None };
+        Some((port.half_code(trap)?, answer.words()[0]))
     }
 
     /// What the port answers to a record's call, in the form of the record.
@@ -257,13 +262,14 @@ mod tests {
     }
 
     /// The text is read back and the port, asked the same, answers the same; every answer of RITM's is there, and of
-    /// guests' calls those of the agreement.
+    /// guests' calls those of the agreement. Regions have all codes, and no access goes through a half with code 0.
     #[test]
     fn the_port_answers_the_records_alike() {
         let text = text();
         assert!(text.is_ascii() && text.ends_with('\n') && text.len() < 600_000);
         let mut port = Port::fresh(0);
         let mut met = BTreeSet::new();
+        let (mut met_codes, mut met_halves) = (BTreeSet::new(), BTreeSet::new());
         for line in text.lines() {
             let fields = fields(line);
             if fields[0] == FRESH {
@@ -273,14 +279,18 @@ mod tests {
                 let (answer, results) = answer(&mut port, &call);
                 assert_eq!(fields[1 + call.arguments().len()..], results, "{call}");
                 met.insert(kind_of_answer(&call, &answer));
+                met_halves.extend(half_and_kind(&port, &call, &answer));
             } else {
                 let results = state(&port, &fields);
                 assert_eq!(fields[fields.len() - results.len()..], results);
+                met_codes.extend((fields[0] == REGION).then(|| (results[3], results[4])));
             }
         }
         let numbers = [0, 1, 2, 3, 4, 5, 6, 7, 8, 9, 17, 19].map(|number| ("", number));
         let traps = (1..=5).map(|kind| ("trap", kind));
         let found = ["find", "look-up", "remove"].into_iter().flat_map(|name| [(name, 0), (name, 1)]);
         assert_eq!(met, numbers.into_iter().chain(traps).chain(found).collect());
+        assert_eq!(met_codes, (0..9).map(|pair| (pair / 3, pair % 3)).collect());
+        assert_eq!(met_halves, BTreeSet::from([(1, 1), (1, 2), (1, 3), (2, 3)]));
     }
 }

@@ -3,7 +3,7 @@
 use crate::call::{Answer, Call, MAX_WORDS, TRAP_HINT, TRAP_KIND, TRAP_VALUES};
 use memory_access::{MemoryAccess, MemoryAccessKind};
 use reference::hypervisor::SuspendMap;
-use reference::oracle::{self, Core, Oracle, Reply, Trap};
+use reference::oracle::{self, Core, Half, Oracle, Reply, Trap};
 use reference::stage2::{align_down_to_page, align_up_to_page};
 
 /// How many cores there are.
@@ -76,12 +76,23 @@ impl RitmRust {
         self.forwarded[core].map(|call| call.firmware)
     }
 
+    /// The half that an access goes through: of a data abort with ISV set, at an address that a region has.
+    pub fn half(&self, trap: Trap) -> Option<Half> {
+        if class(trap) != DATA_ABORT {
+            return None;
+        }
+        let access = MemoryAccess::decode(trap.esr as u32, trap.fipa, trap.far, |_| Some(0))?;
+        let [read, write] = self.oracle.halves_at(access.ipa)?;
+        Some(if access.kind == MemoryAccessKind::Read { read } else { write })
+    }
+
     /// Takes a call as it is, which RITM must have: it panics where RITM does.
     pub fn take(&mut self, call: &Call) -> Answer {
         match *call {
             Call::Allow { base, size, attributes } => Answer::number(self.oracle.allow_range(base, size, attributes)),
             Call::Handle { base, size, read, write } => {
-                Answer::number(self.oracle.handle_range(base, size, read == 1, write == 1))
+                let [read, write] = [read, write].map(|code| Half::of_code(code).expect("a half has this code"));
+                Answer::number(self.oracle.handle_range(base, size, read, write))
             }
             Call::Find { ipa } => self.find(ipa),
             Call::Save { core, ref registers } => self.save(core as usize, registers),

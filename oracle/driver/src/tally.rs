@@ -4,6 +4,7 @@ use crate::asked::{Asked, OUTSIDE, Reading};
 use crate::call::{Answer, Call, TRAP_HINT, TRAP_KIND};
 use crate::compare::Step;
 use crate::ritm_rust::is_guest_call;
+use reference::oracle::Half;
 use std::collections::BTreeMap;
 use std::fmt;
 
@@ -12,6 +13,8 @@ const NUMBERS: usize = 21;
 /// The refusals that RITM gives.
 const DOMAIN: [u64; 11] = [1, 2, 3, 4, 5, 6, 7, 8, 9, 17, 19];
 const TRAPS: [&str; 5] = ["load handled", "store handled", "abort injected", "to the firmware", "to the platform"];
+/// What the halves are, by their codes.
+const HALVES: [&str; 3] = ["0, quiet", "1, the page", "2, fault"];
 
 /// How often a number was returned.
 type Times = [u64; NUMBERS];
@@ -37,6 +40,11 @@ struct GuestCalls {
     hinted: u64,
 }
 
+/// Accesses that are answered, by the code of the half that they go through: loads handled, stores handled, aborts
+/// injected.
+#[derive(Default)]
+struct Accesses([[u64; 3]; HALVES.len()]);
+
 /// Counts of answers.
 #[derive(Default)]
 pub struct Tally {
@@ -45,13 +53,14 @@ pub struct Tally {
     by_name: BTreeMap<&'static str, Counts>,
     traps: [u64; TRAPS.len()],
     guest_calls: GuestCalls,
+    accesses: Accesses,
     replies: [u64; 5],
 }
 
 impl GuestCalls {
     fn count(&mut self, asked: &Asked, answer: &Answer) {
         match asked {
-            Asked::Nothing { .. } => {}
+            Asked::Nothing { .. } | Asked::Ritm { read: Reading::Quiet, .. } => {}
             Asked::Ritm { read: Reading::Same, .. } => self.as_it_stands += 1,
             Asked::Ritm { read: Reading::ByIdentifier { .. }, .. } => {
                 self.by_identifier += 1;
@@ -68,6 +77,26 @@ impl fmt::Display for GuestCalls {
         writeln!(f, "  {:>15} {:>12}", "x0 as it stands", self.as_it_stands)?;
         writeln!(f, "  {:>15} {:>12}", "the identifier", self.by_identifier)?;
         writeln!(f, "  {:>15} {:>12}", "of these hint 1", self.hinted)
+    }
+}
+
+impl Accesses {
+    fn count(&mut self, half: Half, answer: &Answer) {
+        let kind = answer.words()[TRAP_KIND].wrapping_sub(1) as usize;
+        if let Some(counted) = self.0[half as usize].get_mut(kind) {
+            *counted += 1;
+        }
+    }
+}
+
+impl fmt::Display for Accesses {
+    fn fmt(&self, f: &mut fmt::Formatter) -> fmt::Result {
+        let accesses: u64 = self.0.iter().flatten().sum();
+        writeln!(f, "{accesses} accesses to regions, by the half: loads handled, stores handled, aborts injected:")?;
+        for (name, [loads, stores, aborts]) in HALVES.iter().zip(self.0) {
+            writeln!(f, "  {name:>15} {loads:>12} {stores:>12} {aborts:>12}")?;
+        }
+        Ok(())
     }
 }
 
@@ -91,6 +120,8 @@ impl Tally {
                 }
                 if is_guest_call(trap) {
                     self.guest_calls.count(&step.asked, answer);
+                } else if let Some(half) = step.half {
+                    self.accesses.count(half, answer);
                 }
             }
             Call::Find { .. } | Call::LookUp { .. } | Call::Remove { .. } => counts.found += answer.words()[0],
@@ -147,7 +178,7 @@ impl fmt::Display for Tally {
         for (answer, times) in self.answers() {
             writeln!(f, "  {answer:>15} {times:>12}")?;
         }
-        write!(f, "{}", self.guest_calls)?;
+        write!(f, "{}{}", self.guest_calls, self.accesses)?;
         writeln!(
             f,
             "{} calls that RITM is not asked, refused by the port with nothing changed:",

@@ -203,4 +203,46 @@ pub const EDITS: &[Edit] = &[
         new: "self.regions.push(region);",
         lists: 50,
     },
+    Edit {
+        name: "a load with no handler gives 0",
+        file: HYPERVISOR,
+        old: "handler_match.region.handler.read.ok_or(())?",
+        new: "handler_match.region.handler.read.unwrap_or(|_| MemoryReadResult::Value(0))",
+        lists: 50,
+    },
+    Edit {
+        name: "a store needs the read handler too",
+        file: HYPERVISOR,
+        old: "handler_match.region.handler.write.ok_or(())?",
+        new: "handler_match.region.handler.read.and(handler_match.region.handler.write).ok_or(())?",
+        lists: 50,
+    },
+    // The page serves 64 bits alone, so that quiet accesses show these three.
+    Edit {
+        name: "an access below 64 bits finds no region",
+        file: HYPERVISOR,
+        old: "        .find(decoded.ipa)
+        .ok_or(())?;",
+        new: "        .find(decoded.ipa)
+        .filter(|_| decoded.width.bits() == 64)
+        .ok_or(())?;",
+        lists: 50,
+    },
+    Edit {
+        name: "a load below 64 bits leaves Rt",
+        file: HYPERVISOR,
+        old: "unsafe { register_state.write_gpr(decoded.register_index, value) }",
+        new: "let index = if decoded.width.bits() == 64 { decoded.register_index } else { 31 };
+                    unsafe { register_state.write_gpr(index, value) }",
+        lists: 50,
+    },
+    Edit {
+        name: "a store below 64 bits leaves ELR",
+        file: HYPERVISOR,
+        old: "MemoryWriteResult::Handled => {
+                    advance_guest_pc(register_state);",
+        new: "MemoryWriteResult::Handled => {
+                    if decoded.width.bits() == 64 { advance_guest_pc(register_state) }",
+        lists: 50,
+    },
 ];

@@ -6,8 +6,8 @@ use crate::hypervisor;
 use crate::platform::qemu::{self, Qemu};
 use crate::platform::{BootMode, Platform, PlatformParts};
 use crate::stage2::{
-    MemoryAccessHandler, MemoryReadAccess, MemoryReadResult, MemoryWriteAccess, MemoryWriteResult, Stage2Builder,
-    Stage2ConfigError,
+    MemoryAccessHandler, MemoryAccessWidth, MemoryReadAccess, MemoryReadHandler, MemoryReadResult, MemoryWriteAccess,
+    MemoryWriteHandler, MemoryWriteResult, Stage2Builder, Stage2ConfigError,
 };
 use aarch64_paging::descriptor::Stage2Attributes;
 use aarch64_rt::{InitialPagetable, RegisterState};
@@ -61,6 +61,58 @@ pub enum Answer {
     ToPlatform([u64; 18]),
 }
 
+/// Who serves a region's loads, or its stores. Its number is the port's code; in RITM it is an optional function.
+#[derive(Clone, Copy, Debug, Eq, PartialEq)]
+pub enum Half {
+    /// A function that answers every load with 0, or takes every store. RITM has none such: these two are ours.
+    Quiet = 0,
+    /// RITM's function of the filtered MMIO page.
+    FilteredMmio = 1,
+    /// No function, so that the guest gets the abort.
+    Missing = 2,
+}
+
+impl Half {
+    /// The half with the port's code, if there is one.
+    pub fn of_code(code: u64) -> Option<Self> {
+        [Self::Quiet, Self::FilteredMmio, Self::Missing].into_iter().find(|half| *half as u64 == code)
+    }
+
+    fn read(self) -> Option<MemoryReadHandler> {
+        match self {
+            Self::Quiet => Some(quiet_read),
+            Self::FilteredMmio => Some(noted_read),
+            Self::Missing => None,
+        }
+    }
+
+    fn write(self) -> Option<MemoryWriteHandler> {
+        match self {
+            Self::Quiet => Some(quiet_write),
+            Self::FilteredMmio => Some(noted_write),
+            Self::Missing => None,
+        }
+    }
+}
+
+/// The read half and the write half that a region of RITM's has. Functions are told apart by what they do with a byte,
+/// which the page refuses at any offset. Their addresses would not do: the compiler may give two functions one address,
+/// or one function two.
+pub fn halves(handler: &MemoryAccessHandler) -> [Half; 2] {
+    let (ipa, offset, width, value) = (0, 0, MemoryAccessWidth::U8, 0);
+    let read = match handler.read.map(|read| read(MemoryReadAccess { ipa, offset, width })) {
+        Some(MemoryReadResult::Value(_)) => Half::Quiet,
+        Some(MemoryReadResult::Fault) => Half::FilteredMmio,
+        None => Half::Missing,
+    };
+    let write = match handler.write.map(|write| write(MemoryWriteAccess { ipa, offset, width, value })) {
+        Some(MemoryWriteResult::Handled) => Half::Quiet,
+        Some(MemoryWriteResult::Fault) => Half::FilteredMmio,
+        None => Half::Missing,
+    };
+    [read, write]
+}
+
 /// What a handler did.
 #[derive(Clone, Copy, Debug, Eq, PartialEq)]
 enum Access {
@@ -90,6 +142,18 @@ fn noted_write(access: MemoryWriteAccess) -> MemoryWriteResult {
         ACCESS.set(Some(Access::Store));
     }
     result
+}
+
+/// A load that gives 0, noted.
+fn quiet_read(_: MemoryReadAccess) -> MemoryReadResult {
+    ACCESS.set(Some(Access::Load));
+    MemoryReadResult::Value(0)
+}
+
+/// A store that is dropped, noted.
+fn quiet_write(_: MemoryWriteAccess) -> MemoryWriteResult {
+    ACCESS.set(Some(Access::Store));
+    MemoryWriteResult::Handled
 }
 
 /// The call that Qemu's platform answers with one value, and its answer.
@@ -245,10 +309,9 @@ impl Oracle {
         self.built(result)
     }
 
-    /// `Stage2Builder::handle_range`, with the filtered MMIO page where a half is to be there.
-    pub fn handle_range(&mut self, base: u64, size: u64, read: bool, write: bool) -> u64 {
-        let handler =
-            MemoryAccessHandler { read: read.then_some(noted_read as _), write: write.then_some(noted_write as _) };
+    /// `Stage2Builder::handle_range`.
+    pub fn handle_range(&mut self, base: u64, size: u64, read: Half, write: Half) -> u64 {
+        let handler = MemoryAccessHandler { read: read.read(), write: write.write() };
         let result = self.builder.handle_range(base, size as usize, handler);
         self.built(result)
     }
@@ -259,16 +322,22 @@ impl Oracle {
         Some((found.region.base_ipa, found.offset))
     }
 
+    /// The read half and the write half of the region that `find` gives.
+    pub fn halves_at(&self, ipa: u64) -> Option<[Half; 2]> {
+        let found = hypervisor::policy().memory_access_handlers.find(ipa)?;
+        Some(halves(&found.region.handler))
+    }
+
     /// Base, size, end and attributes of each allowed range.
     pub fn ranges(&self) -> impl Iterator<Item = [u64; 4]> {
         self.builder.ranges().zip(self.builder.attributes()).map(|([base, size, end], word)| [base, size, end, word])
     }
 
-    /// Base, size and end of each region, and whether it has a read half and a write half.
+    /// Base, size and end of each region, and the port's codes of its read half and its write half.
     pub fn regions(&self) -> impl Iterator<Item = [u64; 5]> {
         self.builder.regions().map(|(region, end)| {
-            let halves = (region.handler.read.is_some(), region.handler.write.is_some());
-            [region.base_ipa, region.size as u64, end, halves.0.into(), halves.1.into()]
+            let [read, write] = halves(&region.handler).map(|half| half as u64);
+            [region.base_ipa, region.size as u64, end, read, write]
         })
     }
 

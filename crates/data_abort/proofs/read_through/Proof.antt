@@ -21,6 +21,9 @@ extend-read-result-requires c κs = search needs
 enum-told-3 : tie.Need-enum-told-3
 enum-told-3 c = search needs
 
+enum-told-4 : tie.Need-enum-told-4
+enum-told-4 c = search needs
+
 returns : tie.Need-returns
 unfolding through
 returns c = rw (c .enum-told .given .1)
@@ -39,6 +42,10 @@ returns-3 : tie.Need-returns-3
 unfolding through
 returns-3 c = rw (c .before .before .before .enum-told2 .given .1, ← c .before .before .read-filtered-mmio .ensures, c .enum-told3 .given .1)
 
+returns-4 : tie.Need-returns-4
+unfolding through
+returns-4 c = rw (c .enum-told4 .given .1)
+
 pub read-through-spec : {M : Type 1} → statement M
 read-through-spec =
     tie.close
@@ -49,6 +56,8 @@ read-through-spec =
     enum-known-result
     extend-read-result-requires
     enum-told-3
+    enum-told-4
     returns
     returns-2
-    returns-3)
+    returns-3
+    returns-4)

@@ -30,6 +30,9 @@ enum-told-3 c = search needs
 enum-told-4 : tie.Need-enum-told-4
 enum-told-4 c = search needs
 
+enum-told-5 : tie.Need-enum-told-5
+enum-told-5 c = search needs
+
 returns : tie.Need-returns
 unfolding through
 returns c = rw (c .enum-told .given .1)
@@ -42,6 +45,10 @@ returns-3 : tie.Need-returns-3
 unfolding through
 returns-3 c = rw (c .before .before .before .before .enum-told2 .given .1, ← stored (c .before .before), c .enum-told4 .given .1)
 
+returns-4 : tie.Need-returns-4
+unfolding through
+returns-4 c = rw (c .enum-told5 .given .1)
+
 pub write-through-spec : {M : Type 1} → statement M
 write-through-spec =
     tie.close
@@ -52,6 +59,8 @@ write-through-spec =
     write-filtered-mmio-requires
     enum-told-3
     enum-told-4
+    enum-told-5
     returns
     returns-2
-    returns-3)
+    returns-3
+    returns-4)
