@@ -316,9 +316,16 @@ static uint64_t allow_range(const struct arguments *x)
     return ritm_allow_range(AS(ritm_policy, policy), x->base, x->size, x->a);
 }
 
+/* Mostly the number of a handler, at times the first that is none, or any. */
+static uint64_t handler(uint64_t drawn)
+{
+    const uint64_t choice = drawn % 50;
+    return choice < 48 ? choice % RITM_HANDLER_COUNT : choice == 48 ? RITM_HANDLER_COUNT : drawn;
+}
+
 static uint64_t handle_range(const struct arguments *x)
 {
-    return ritm_handle_range(AS(ritm_policy, policy), x->base, x->size, x->a % 33 / 16, x->b % 33 / 16);
+    return ritm_handle_range(AS(ritm_policy, policy), x->base, x->size, handler(x->a), handler(x->b));
 }
 
 /* Mostly the slice is the whole buffer; at times it is the blob alone or of any length, and once in 64 there is none.
@@ -493,7 +500,25 @@ static void begin_list(int aligned)
     }
 }
 
-static void count(const struct call *call, uint64_t answer)
+/* A trap with a valid syndrome counts for the handler of its region and its direction, if it has a region. */
+static void count_access(const struct arguments *x, uint64_t kind)
+{
+    const uint64_t ipa = x->fipa << 12 | (x->far & (PAGE - 1));
+    const uint64_t held = ritm_get_word(policy.start, RITM_POLICY_REGION_COUNT);
+    const int is_access = (x->esr >> 26 & 0x3f) == 0x24 && (x->esr >> 24 & 1);
+    for (size_t k = 0; is_access && k < held && k < RITM_MAX_MEMORY_ACCESS_HANDLERS; k++) {
+        const size_t region = RITM_POLICY_REGIONS + k * RITM_REGION_WORDS;
+        if (ritm_get_word(policy.start, region + RITM_REGION_BASE) <= ipa &&
+            ipa < ritm_get_word(policy.start, region + RITM_REGION_END)) {
+            const size_t half = x->esr >> 6 & 1 ? RITM_REGION_WRITE : RITM_REGION_READ;
+            const uint64_t code = ritm_get_word(policy.start, region + half);
+            outcome.handler_kinds[code < HANDLERS ? code : HANDLERS - 1][kind]++;
+            return;
+        }
+    }
+}
+
+static void count(const struct call *call, const struct arguments *x, uint64_t answer)
 {
     if (call->make != buffer_size && answer < ANSWERS) {
         outcome.answers[answer]++;
@@ -505,6 +530,7 @@ static void count(const struct call *call, uint64_t answer)
         const uint64_t kind = ritm_get_word(trapped.start, RITM_TRAP_KIND) % TRAP_KINDS;
         outcome.trap_kinds[kind]++;
         outcome.hinted_kinds[kind] += ritm_get_word(trapped.start, RITM_TRAP_HINT);
+        count_access(x, kind);
     }
 }
 
@@ -515,12 +541,12 @@ static void make_call(void)
     const uint64_t answer = call->make(&drawn);
     take(answer);
     take_what_was_lent(call);
-    count(call, answer);
+    count(call, &drawn, answer);
 }
 
 struct outcome make_random_calls(uint64_t seed, uint64_t number_of_calls, int aligned)
 {
-    outcome = (struct outcome){{0}, {0}, {0}, {0}, 0, 0};
+    outcome = (struct outcome){.hash = 0};
     state = seed;
     for (uint64_t i = 0; i < number_of_calls; i++) {
         if (i % LIST_LENGTH == 0) {

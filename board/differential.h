@@ -7,13 +7,17 @@
 #define ANSWERS 23
 #define TRAP_KINDS 6
 
-/* How often each answer, each of an import, each kind of trap, and each kind with the hint was met, and a hash of
-   everything that calls returned, wrote and left. */
+/* A region's handlers, and the unknown codes, which count as one. */
+#define HANDLERS 4
+
+/* How often each answer, each of an import, each kind of trap, each kind with the hint, and each kind of an access to a
+   region by its handler was met, and a hash of everything that calls returned, wrote and left. */
 struct outcome {
     uint64_t answers[ANSWERS];
     uint64_t import_answers[ANSWERS];
     uint64_t trap_kinds[TRAP_KINDS];
     uint64_t hinted_kinds[TRAP_KINDS];
+    uint64_t handler_kinds[HANDLERS][TRAP_KINDS];
     uint64_t hash;
     /* How often a byte beside a buffer was changed. */
     uint64_t changed_beside;

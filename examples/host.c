@@ -1,7 +1,7 @@
 /*
- * A small EL2 host: it sets up the policy of RITM's src/platform/qemu.rs, then takes the traps of a guest that boots.
- * There is no guest: where a host would enter EL1, this one sets the register that a guest would have set. Each step
- * prints a line. A step that answers otherwise than expected ends the program with status 1.
+ * A small EL2 host: it sets up the policy of RITM's src/platform/qemu.rs, and two pages of its own, then takes the
+ * traps of a guest that boots. There is no guest: where a host would enter EL1, this one sets the register that a guest
+ * would have set. Each step prints a line. A step that answers otherwise than expected ends the program with status 1.
  */
 #include <inttypes.h>
 #include <stdio.h>
@@ -28,6 +28,11 @@
 /* Chosen here: RITM's build gives the address of its image, and the linker that of the heap in it. */
 #define RITM_IMAGE_ADDRESS UINT64_C(0x70000000)
 #define SHARED_HEAP_ADDRESS (RITM_IMAGE_ADDRESS + UINT64_C(0x2a0840))
+
+/* Chosen here: a page of which the loads alone are served, and one of which nothing is. */
+#define HALF_SERVED_BASE UINT64_C(0x300000000)
+#define UNSERVED_BASE (HALF_SERVED_BASE + PAGE_SIZE)
+#define UNSERVED_END (UNSERVED_BASE + PAGE_SIZE)
 
 /* Stage-2 descriptors (Arm DDI 0487): valid, read and write, access flag; memory is write-back and inner shareable. */
 #define STAGE2_DEVICE_ATTRIBUTES UINT64_C(0x4c1)
@@ -69,9 +74,10 @@
 #define UPPER_HALF UINT64_C(0x100000000)
 #define SVE_HINT UINT64_C(0x10000)
 
-/* What the filtered MMIO page takes. */
+/* What the filtered MMIO page takes, and where its counter is. */
 #define STORE_OFFSET UINT64_C(8)
 #define STORE_VALUE UINT64_C(0x123456789abcdef0)
+#define COUNTER_OFFSET UINT64_C(16)
 
 struct host {
     struct ritm_policy policy;
@@ -103,11 +109,11 @@ static void allow(struct host *host, uint64_t start, uint64_t end, uint64_t attr
     printf("policy: allow 0x%" PRIx64 " to 0x%" PRIx64 ", %s\n", start, end, what);
 }
 
-static void handle(struct host *host, uint64_t start, uint64_t end, const char *what)
+static void handle(struct host *host, uint64_t start, uint64_t end, uint64_t read, uint64_t write, const char *what)
 {
-    expect_accepted(what, ritm_handle_range(&host->policy, start, end - start, RITM_HANDLER_FILTERED_MMIO,
-                                            RITM_HANDLER_FILTERED_MMIO));
-    printf("policy: handle 0x%" PRIx64 " to 0x%" PRIx64 ", %s\n", start, end, what);
+    expect_accepted(what, ritm_handle_range(&host->policy, start, end - start, read, write));
+    printf("policy: handle 0x%" PRIx64 " to 0x%" PRIx64 ", %s: loads by handler %" PRIu64 ", stores by %" PRIu64 "\n",
+           start, end, what, read, write);
 }
 
 /* The linker may put the heap anywhere: its whole pages are allowed. */
@@ -126,13 +132,23 @@ static void configure_memory_access(struct host *host)
     const uint64_t ritm_end = RITM_IMAGE_ADDRESS + RITM_IMAGE_SIZE;
     expect_accepted("a fresh policy", ritm_fresh_policy(&host->policy));
     allow(host, 0, FILTERED_MMIO_BASE, STAGE2_DEVICE_ATTRIBUTES, "device memory before the filtered MMIO page");
-    handle(host, FILTERED_MMIO_BASE, FILTERED_MMIO_END, "the filtered MMIO page");
+    handle(host, FILTERED_MMIO_BASE, FILTERED_MMIO_END, RITM_HANDLER_FILTERED_MMIO, RITM_HANDLER_FILTERED_MMIO,
+           "the filtered MMIO page");
     allow(host, FILTERED_MMIO_END, DRAM_START, STAGE2_DEVICE_ATTRIBUTES, "device memory after the filtered MMIO page");
     allow(host, DRAM_START, RITM_IMAGE_ADDRESS, STAGE2_MEMORY_ATTRIBUTES, "normal memory before the RITM image");
     allow(host, ritm_end, NORMAL_MEMORY_END, STAGE2_MEMORY_ATTRIBUTES, "normal memory after the RITM image");
     allow(host, HIGH_ECAM_START, HIGH_ECAM_END, STAGE2_DEVICE_ATTRIBUTES, "high PCIe ECAM");
     allow(host, HIGH_MMIO_START, HIGH_MMIO_END, STAGE2_DEVICE_ATTRIBUTES, "high MMIO");
     allow_shared_heap(host);
+}
+
+/* Each direction has its own handler. The one page's stores are dropped; the other's loads give 0, and its stores are a
+   fault. */
+static void handle_pages_in_part(struct host *host)
+{
+    handle(host, HALF_SERVED_BASE, UNSERVED_BASE, RITM_HANDLER_FILTERED_MMIO, RITM_HANDLER_ABSENT,
+           "a page that is half served");
+    handle(host, UNSERVED_BASE, UNSERVED_END, RITM_HANDLER_ABSENT, RITM_HANDLER_FAULT, "a page that is not served");
 }
 
 static void allow_a_page_twice(struct host *host)
@@ -148,16 +164,16 @@ static void count_ranges(const struct host *host)
     const uint64_t allowed = ritm_get_word(&host->policy, RITM_POLICY_ALLOWED_COUNT);
     const uint64_t regions = ritm_get_word(&host->policy, RITM_POLICY_REGION_COUNT);
     expect("allowed ranges", allowed, 7);
-    expect("regions", regions, 1);
+    expect("regions", regions, 3);
     printf("policy: allowed ranges %" PRIu64 ", regions %" PRIu64 "\n", allowed, regions);
 }
 
 static void find_addresses(const struct host *host)
 {
     struct ritm_find_result found;
-    expect_accepted("find", ritm_find(&host->policy, FILTERED_MMIO_BASE + 16, &found));
+    expect_accepted("find", ritm_find(&host->policy, FILTERED_MMIO_BASE + COUNTER_OFFSET, &found));
     expect("an address of the page", ritm_get_word(&found, RITM_FIND_FOUND), 1);
-    printf("policy: find 0x%" PRIx64 ": region %" PRIu64 ", offset %" PRIu64 "\n", FILTERED_MMIO_BASE + 16,
+    printf("policy: find 0x%" PRIx64 ": region %" PRIu64 ", offset %" PRIu64 "\n", FILTERED_MMIO_BASE + COUNTER_OFFSET,
            ritm_get_word(&found, RITM_FIND_INDEX), ritm_get_word(&found, RITM_FIND_OFFSET));
     expect_accepted("find", ritm_find(&host->policy, UART_BASE_ADDRESS, &found));
     expect("an address of the UART", ritm_get_word(&found, RITM_FIND_FOUND), 0);
@@ -282,6 +298,14 @@ static void call_by_identifier(struct host *host, uint64_t core)
     }
 }
 
+static void load(struct host *host, uint64_t core, const char *what, uint64_t ipa, uint64_t word)
+{
+    expect_trap(host, core, ESR_LOAD, ipa, RITM_TRAP_LOAD_HANDLED);
+    expect("a loaded word", gpr(host, core, RT), word);
+    printf("core %" PRIu64 ": %s at 0x%" PRIx64 ": x%d 0x%" PRIx64 ", ELR 0x%" PRIx64 "\n", core, what, ipa, RT, word,
+           core_word(host, core, RITM_CORE_ELR));
+}
+
 /* Each word of the filtered MMIO page, and the counter once more, from another core too: it grows by each load. */
 static void load_words(struct host *host)
 {
@@ -291,40 +315,56 @@ static void load_words(struct host *host)
         uint64_t word;
     } loads[] = {
         {0, 0, UINT64_C(0xfeedfacecafebeef)},
-        {0, 16, 0},
-        {0, 16, 1},
+        {0, COUNTER_OFFSET, 0},
+        {0, COUNTER_OFFSET, 1},
         {0, 24, UINT64_C(0x1111222233334444)},
         {0, 32, UINT64_C(0x5555666677778888)},
         {0, 40, UINT64_C(0x9999aaaabbbbcccc)},
-        {1, 16, 2},
+        {1, COUNTER_OFFSET, 2},
     };
     for (size_t i = 0; i < sizeof loads / sizeof loads[0]; i++) {
-        const uint64_t ipa = FILTERED_MMIO_BASE + loads[i].offset;
-        expect_trap(host, loads[i].core, ESR_LOAD, ipa, RITM_TRAP_LOAD_HANDLED);
-        expect("a loaded word", gpr(host, loads[i].core, RT), loads[i].word);
-        printf("core %" PRIu64 ": load at 0x%" PRIx64 ": x%d 0x%" PRIx64 ", ELR 0x%" PRIx64 "\n", loads[i].core, ipa,
-               RT, loads[i].word, core_word(host, loads[i].core, RITM_CORE_ELR));
+        load(host, loads[i].core, "load", FILTERED_MMIO_BASE + loads[i].offset, loads[i].word);
     }
 }
 
-static void store_words(struct host *host, uint64_t core)
+static void store(struct host *host, uint64_t core, const char *what, uint64_t ipa, uint64_t value)
 {
-    const uint64_t ipa = FILTERED_MMIO_BASE + STORE_OFFSET;
-    run_guest(host, core, RT, STORE_VALUE);
+    run_guest(host, core, RT, value);
     expect_trap(host, core, ESR_STORE, ipa, RITM_TRAP_STORE_HANDLED);
-    printf("core %" PRIu64 ": store of 0x%" PRIx64 " at 0x%" PRIx64 ": handled, ELR 0x%" PRIx64 "\n", core, STORE_VALUE,
+    printf("core %" PRIu64 ": %s of 0x%" PRIx64 " at 0x%" PRIx64 ": handled, ELR 0x%" PRIx64 "\n", core, what, value,
            ipa, core_word(host, core, RITM_CORE_ELR));
+}
 
-    run_guest(host, core, RT, STORE_VALUE + 1);
+static void store_aborted(struct host *host, uint64_t core, uint64_t ipa, uint64_t value)
+{
+    run_guest(host, core, RT, value);
     expect_trap(host, core, ESR_STORE, ipa, RITM_TRAP_ABORT_INJECTED);
     expect("ELR at the guest's vector", core_word(host, core, RITM_CORE_ELR), GUEST_VBAR + 0x200);
     printf("core %" PRIu64 ": store of 0x%" PRIx64 " at 0x%" PRIx64 ": abort injected, ELR 0x%" PRIx64 "\n", core,
-           STORE_VALUE + 1, ipa, core_word(host, core, RITM_CORE_ELR));
+           value, ipa, core_word(host, core, RITM_CORE_ELR));
     printf("core %" PRIu64 ": SPSR 0x%" PRIx64 ", ELR_EL1 0x%" PRIx64 ", SPSR_EL1 0x%" PRIx64 ", FAR_EL1 0x%" PRIx64
            ", ESR_EL1 0x%" PRIx64 "\n",
            core, core_word(host, core, RITM_CORE_SPSR), core_word(host, core, RITM_CORE_ELR_EL1),
            core_word(host, core, RITM_CORE_SPSR_EL1), core_word(host, core, RITM_CORE_FAR_EL1),
            core_word(host, core, RITM_CORE_ESR_EL1));
+}
+
+static void store_words(struct host *host, uint64_t core)
+{
+    const uint64_t ipa = FILTERED_MMIO_BASE + STORE_OFFSET;
+    store(host, core, "store", ipa, STORE_VALUE);
+    store_aborted(host, core, ipa, STORE_VALUE + 1);
+}
+
+/* A guest probes pages that are served in part. Through an absent handler a store is dropped and a load gives 0, and
+   does not count; handler 2 is the abort. */
+static void probe_pages(struct host *host, uint64_t core)
+{
+    load(host, core, "load", HALF_SERVED_BASE + COUNTER_OFFSET, 3);
+    store(host, core, "quiet store", HALF_SERVED_BASE + COUNTER_OFFSET, 7);
+    load(host, core, "quiet load", UNSERVED_BASE + COUNTER_OFFSET, 0);
+    load(host, core, "load", HALF_SERVED_BASE + COUNTER_OFFSET, 4);
+    store_aborted(host, core, UNSERVED_BASE + COUNTER_OFFSET, 7);
 }
 
 static void boot(struct host *host)
@@ -337,6 +377,7 @@ static void boot(struct host *host)
     call_by_identifier(host, 0);
     load_words(host);
     store_words(host, 0);
+    probe_pages(host, 1);
     expect_refused_trap(host, 8, "a trap on a ninth core", RITM_NO_SUCH_CORE);
 }
 
@@ -377,6 +418,7 @@ int main(void)
 {
     static struct host host;
     configure_memory_access(&host);
+    handle_pages_in_part(&host);
     allow_a_page_twice(&host);
     count_ranges(&host);
     find_addresses(&host);

@@ -193,10 +193,13 @@ static uint64_t find_place(const uint64_t *a)
 #define STORE_ISS (LOAD_ISS | UINT64_C(0x40))
 #define LOAD (EC(0x24) | LOAD_ISS)
 #define STORE (EC(0x24) | STORE_ISS)
+#define WITHOUT_SYNDROME EC(0x24)
 #define NO_TRAP UINT64_C(0)
 
-/* Offsets in the filtered MMIO page: a word, the counter, where a store is taken, and where nothing is. */
+/* Offsets in the filtered MMIO page: a word, with what it holds; the counter, where a store is taken, and where nothing
+   is. */
 #define WORD 0
+#define FIRST_WORD UINT64_C(0xfeedfacecafebeef)
 #define COUNTER 16
 #define STORED 8
 #define NO_WORD 48
@@ -365,7 +368,8 @@ static uint64_t values_used(const uint64_t *a)
     return used;
 }
 
-/* The handler's code, as the policy's bytes hold it, whose region answers a load with this kind. */
+/* The handler's code, as the policy's bytes hold it, whose region answers a load with this kind and leaves this word in
+   its register. */
 static uint64_t handler_code(const uint64_t *a)
 {
     for (uint64_t code = 0; code < RITM_HANDLER_COUNT; code++) {
@@ -373,11 +377,37 @@ static uint64_t handler_code(const uint64_t *a)
         make_machine(&machine, (uint64_t[]){NO_TRAP, 0, 0});
         make_policy(&machine.policy, 0, 1, code, code);
         trap_on(&machine, 1, LOAD, WORD, VBAR);
-        if (ritm_get_word(&machine.trapped, RITM_TRAP_KIND) == a[0]) {
+        if (ritm_get_word(&machine.trapped, RITM_TRAP_KIND) == a[0] &&
+            ritm_get_word(&machine.cores, RITM_CORE_WORDS + RITM_CORE_X + 5) == a[1]) {
             return ritm_get_word(&machine.policy, RITM_POLICY_REGIONS + RITM_REGION_READ);
         }
     }
     return NOT_SEEN;
+}
+
+/* Core 1's access where the filtered MMIO page has no word, through a region whose handlers have this code in the
+   policy's bytes. Arguments, here and in the two below: the code, the ESR, VBAR. */
+static uint64_t trap_through(struct machine *machine, const uint64_t *a)
+{
+    make_machine(machine, (uint64_t[]){NO_TRAP, 0, 0});
+    ritm_put_word(&machine->policy, RITM_POLICY_REGIONS + RITM_REGION_READ, a[0]);
+    ritm_put_word(&machine->policy, RITM_POLICY_REGIONS + RITM_REGION_WRITE, a[0]);
+    return trap_on(machine, 1, a[1], NO_WORD, a[2]);
+}
+
+/* What such an access returns. */
+static uint64_t through(const uint64_t *a)
+{
+    struct machine machine;
+    return trap_through(&machine, a);
+}
+
+/* What it came to. */
+static uint64_t kind_through(const uint64_t *a)
+{
+    struct machine machine;
+    trap_through(&machine, a);
+    return ritm_get_word(&machine.trapped, RITM_TRAP_KIND);
 }
 
 /* Reads a register. Arguments: core, index. */
@@ -515,6 +545,9 @@ static const struct row rows[] = {
     {NAMED(RITM_NO_PAGE_ABOVE), align_up, {UINT64_MAX}},
     {NAMED(RITM_NO_SYNDROME), decode, {0}},
     {NAMED(RITM_UNKNOWN_MEMORY_HANDLER), handle, {0, 0, APART, PAGE, 1, RITM_HANDLER_COUNT}},
+    {NAMED(RITM_UNKNOWN_MEMORY_HANDLER), handle, {0, 0, APART, PAGE, RITM_HANDLER_COUNT, 1}},
+    {NAMED(RITM_UNKNOWN_MEMORY_HANDLER), handle, {0, 0, 1, 0, 0, UINT64_MAX}},
+    {NAMED(RITM_RANGE_BASE_NOT_PAGE_ALIGNED), handle, {0, 0, 1, 0, RITM_HANDLER_FAULT, RITM_HANDLER_FAULT}},
 
     {NAMED(RITM_ACCEPTED), import, {0, 0, APART, PAGE, 2}},
     {NAMED(RITM_RANGE_BASE_NOT_PAGE_ALIGNED), import, {0, 0, 1, 0, 2}},
@@ -528,8 +561,23 @@ static const struct row rows[] = {
     {NAMED(RITM_UNSUPPORTED_CELL_COUNTS), import, {0, 0, APART, PAGE, 3}},
 
     {NAMED(RITM_HANDLER_COUNT), known_handlers, {0}},
-    {NAMED(RITM_HANDLER_ABSENT), handler_code, {RITM_TRAP_ABORT_INJECTED}},
-    {NAMED(RITM_HANDLER_FILTERED_MMIO), handler_code, {RITM_TRAP_LOAD_HANDLED}},
+    {NAMED(RITM_HANDLER_ABSENT), handler_code, {RITM_TRAP_LOAD_HANDLED, 0}},
+    {NAMED(RITM_HANDLER_FILTERED_MMIO), handler_code, {RITM_TRAP_LOAD_HANDLED, FIRST_WORD}},
+    {NAMED(RITM_HANDLER_FAULT), handler_code, {RITM_TRAP_ABORT_INJECTED, SAVED(5)}},
+
+    {NAMED(RITM_ACCEPTED), through, {RITM_HANDLER_ABSENT, LOAD, 0}},
+    {NAMED(RITM_ACCEPTED), through, {RITM_HANDLER_ABSENT, STORE, 0}},
+    {NAMED(RITM_NO_GUEST_VECTOR), through, {RITM_HANDLER_ABSENT, WITHOUT_SYNDROME, 0}},
+    {NAMED(RITM_NO_GUEST_VECTOR), through, {RITM_HANDLER_FAULT, LOAD, 0}},
+    {NAMED(RITM_NO_GUEST_VECTOR), through, {RITM_HANDLER_FAULT, STORE, 0}},
+    {NAMED(RITM_TRAP_LOAD_HANDLED), kind_through, {RITM_HANDLER_ABSENT, LOAD, 0}},
+    {NAMED(RITM_TRAP_STORE_HANDLED), kind_through, {RITM_HANDLER_ABSENT, STORE, 0}},
+    {NAMED(RITM_TRAP_ABORT_INJECTED), kind_through, {RITM_HANDLER_ABSENT, WITHOUT_SYNDROME, VBAR}},
+    {NAMED(RITM_TRAP_ABORT_INJECTED), kind_through, {RITM_HANDLER_FAULT, STORE, VBAR}},
+    {NAMED(RITM_TRAP_ABORT_INJECTED), kind_through, {RITM_HANDLER_COUNT, LOAD, VBAR}},
+    {NAMED(RITM_TRAP_ABORT_INJECTED), kind_through, {RITM_HANDLER_COUNT, STORE, VBAR}},
+    {NAMED(RITM_TRAP_ABORT_INJECTED), kind_through, {UINT64_MAX, LOAD, VBAR}},
+    {NAMED(RITM_TRAP_ABORT_INJECTED), kind_through, {UINT64_MAX, STORE, VBAR}},
 
     {NAMED(RITM_WAIT_NOTHING), wait_code, {LOAD, WORD}},
     {NAMED(RITM_WAIT_HVC_FIRMWARE), wait_code, {HVC, 0, FIRMWARE_CALL}},

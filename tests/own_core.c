@@ -27,8 +27,10 @@
 #define STORE (LOAD | 0x40)
 #define NO_SYNDROME UINT64_C(0x92000007)
 
-/* The offset of the counter word in the filtered MMIO page. */
+/* The offset of the counter word in the filtered MMIO page, and that of the page behind it, where a load is quiet and a
+   store a fault, so that no load there is one of the counter. */
 #define COUNTER 16
+#define QUIET PAGE
 
 static struct ritm_policy policy;
 static struct ritm_trap_result trapped;
@@ -48,7 +50,7 @@ static void expect(const char *what, uint64_t got, uint64_t expected)
 
 static uint64_t trap(uint64_t core, uint64_t esr, uint64_t offset, uint64_t vbar)
 {
-    return ritm_trap(&policy, cores, core, esr, FILTERED_MMIO_BASE / PAGE, offset, vbar, &trapped);
+    return ritm_trap(&policy, cores, core, esr, (FILTERED_MMIO_BASE + offset) / PAGE, offset, vbar, &trapped);
 }
 
 /* The calls that need no lock. */
@@ -85,6 +87,9 @@ static void aborts_that_do_not_count(uint64_t core)
     expect_abort(core, LOAD_32, COUNTER, RITM_TRAP_ABORT_INJECTED);
     expect_abort(core, NO_SYNDROME, COUNTER, RITM_TRAP_ABORT_INJECTED);
     expect_abort(core, STORE, COUNTER, RITM_TRAP_ABORT_INJECTED);
+    expect_abort(core, LOAD, QUIET + COUNTER, RITM_TRAP_LOAD_HANDLED);
+    expect_abort(core, LOAD_32, QUIET + COUNTER, RITM_TRAP_LOAD_HANDLED);
+    expect_abort(core, STORE, QUIET + COUNTER, RITM_TRAP_ABORT_INJECTED);
     expect("write", ritm_write_gpr(cores, core, 5, UINT64_C(0x123456789abcdef0)), RITM_ACCEPTED);
     expect_abort(core, STORE, 8, RITM_TRAP_STORE_HANDLED);
     expect("an abort without a vector", trap(core, LOAD, 48, 0), RITM_NO_GUEST_VECTOR);
@@ -159,6 +164,7 @@ int main(void)
     }
     ritm_fresh_policy(&policy);
     ritm_handle_range(&policy, FILTERED_MMIO_BASE, PAGE, RITM_HANDLER_FILTERED_MMIO, RITM_HANDLER_FILTERED_MMIO);
+    ritm_handle_range(&policy, FILTERED_MMIO_BASE + QUIET, PAGE, RITM_HANDLER_ABSENT, RITM_HANDLER_FAULT);
     for (uint64_t core = 0; core < RITM_MAX_CORES; core++) {
         beside_closed_words(calls_of_one_core, core, PROT_NONE);
         beside_closed_words(aborts_that_do_not_count, core, PROT_READ);

@@ -16,6 +16,12 @@
 /* The filtered MMIO page of src/platform/qemu.rs. */
 #define FILTERED_MMIO_BASE UINT64_C(0x0f000000)
 
+/* Pages that are handled in part, which RITM's platform has not. Of the first the loads are those of the filtered MMIO
+   page, and stores are quiet; of the others one direction is quiet, and the other a fault. */
+#define HALF_SERVED_BASE UINT64_C(0x300000000)
+#define QUIET_LOADS_BASE (HALF_SERVED_BASE + PAGE_SIZE)
+#define QUIET_STORES_BASE (QUIET_LOADS_BASE + PAGE_SIZE)
+
 /* A page that the host serves itself: loads give these eight bytes, repeated. */
 #define OWN_PAGE_BASE UINT64_C(0x100000000)
 #define OWN_PAGE_WORD UINT64_C(0x8091a2b3047566f7)
@@ -37,7 +43,7 @@
 
 /* The guest's own: how many of its checks failed, and whether traps print no lines. */
 #define VERDICT_CALL UINT64_C(0xff000001)
-#define QUIET_CALL UINT64_C(0xff000002)
+#define SILENT_CALL UINT64_C(0xff000002)
 
 /* ESR_EL1 and ESR_EL2, and the ISS of a data abort (Arm DDI 0601). */
 #define ESR_EC(ec) (UINT64_C(ec) << 26)

@@ -34,6 +34,7 @@ probe load_u8, load_u16, load_u32, load_64, load_s8_to_32, load_s16_to_32, load_
     load_s32_to_64, load_acquire, load_unscaled, load_unprivileged, load_register_offset, load_exclusive,
     load_post_index, load_pair, store_8, store_16, store_32, store_64, store_zero, store_release, store_pair, branch;
 way at_el1t, at_el0, at_el0_aarch32;
+uint64_t access_in_a_row(uint64_t loads, uint64_t stores);
 void call_hvc(uint64_t *x), call_hvc_immediate(uint64_t *x), call_smc(uint64_t *x), call_smc_immediate(uint64_t *x);
 extern void (*const loads_into[32])(uint64_t address, uint64_t *registers);
 void _start(void);
@@ -76,6 +77,12 @@ static void expect(const char *what, uint64_t got, uint64_t expected)
 static uint64_t access_of(probe *probe)
 {
     return (uint64_t)probe + 12;
+}
+
+/* How many bytes a probe loads or stores. */
+static uint64_t size_of(probe *probe)
+{
+    return UINT64_C(1) << (*(const uint32_t *)access_of(probe) >> 30);
 }
 
 /* The access is served, and gives this. */
@@ -166,19 +173,22 @@ static void store_words(void)
     expect_abort(store_32, FILTERED_MMIO_BASE + 8, STORE_VALUE, DFSC_TRANSLATION(3));
 }
 
+/* A load into a register gives this word, and leaves all others as they were. */
+static void expect_loaded(size_t k, uint64_t address, uint64_t word)
+{
+    const size_t base = k == 6 ? 7 : 6;
+    uint64_t registers[31];
+    loads_into[k](address, registers);
+    for (size_t i = 0; i < 31; i++) {
+        expect("a register", registers[i], i == k ? word : i == base ? address : 0x100 + i);
+    }
+}
+
 static void load_each_register(void)
 {
     say("a load into each register, the zero register too");
     for (size_t k = 0; k < 32; k++) {
-        const size_t base = k == 6 ? 7 : 6;
-        uint64_t registers[31];
-        loads_into[k](FILTERED_MMIO_BASE + 24, registers);
-        for (size_t i = 0; i < 31; i++) {
-            expect("a register", registers[i],
-                   i == k      ? UINT64_C(0x1111222233334444)
-                   : i == base ? FILTERED_MMIO_BASE + 24
-                               : 0x100 + i);
-        }
+        expect_loaded(k, FILTERED_MMIO_BASE + 24, UINT64_C(0x1111222233334444));
     }
 }
 
@@ -197,13 +207,94 @@ static void load_as_from_memory(void)
     static const uint64_t memory[] = {OWN_PAGE_WORD, OWN_PAGE_WORD};
     say("loads of each width and sign from the host's own page, as from memory");
     for (size_t i = 0; i < LENGTH(narrow_loads); i++) {
-        const uint64_t size = UINT64_C(1) << (*(const uint32_t *)access_of(narrow_loads[i]) >> 30);
-        for (uint64_t offset = 0; offset < 8; offset += size) {
+        for (uint64_t offset = 0; offset < 8; offset += size_of(narrow_loads[i])) {
             const uint64_t result = narrow_loads[i]((uint64_t)memory + offset, UINT64_MAX);
             expect_served(narrow_loads[i], OWN_PAGE_BASE + offset, UINT64_MAX, result);
         }
     }
     expect_served(load_64, OWN_PAGE_BASE, 0, OWN_PAGE_WORD);
+}
+
+/*
+ * Pages that are handled in part. Each direction goes by its own handler: an absent one is quiet, whatever the width
+ * and the offset, and a fault gives the abort.
+ */
+
+static probe *const stores[] = {store_8, store_16, store_32, store_64};
+
+/* A load of the counter's offset gives 0 as any other, and does not count. */
+static void load_quietly(void)
+{
+    say("quiet loads of each width and sign, at the counter's offset and at the page's end");
+    for (size_t i = 0; i < LENGTH(narrow_loads); i++) {
+        expect_served(narrow_loads[i], QUIET_LOADS_BASE + 16, UINT64_MAX, 0);
+        expect_served(narrow_loads[i], QUIET_LOADS_BASE + PAGE_SIZE - size_of(narrow_loads[i]), UINT64_MAX, 0);
+    }
+    expect_served(load_64, QUIET_LOADS_BASE + 16, UINT64_MAX, 0);
+    expect_served(load_64, QUIET_LOADS_BASE + PAGE_SIZE - 8, UINT64_MAX, 0);
+    expect_served(load_acquire, QUIET_LOADS_BASE + 16, UINT64_MAX, 0);
+    expect_served(load_unscaled, QUIET_LOADS_BASE + 17, UINT64_MAX, 0);
+    expect_served(load_unprivileged, QUIET_LOADS_BASE + 16, UINT64_MAX, 0);
+    expect_served(load_register_offset, QUIET_LOADS_BASE + 16, UINT64_MAX, 0);
+    say("quiet loads into the first, the last and the zero register, and then the counter");
+    expect_loaded(0, QUIET_LOADS_BASE + 16, 0);
+    expect_loaded(30, QUIET_LOADS_BASE + 16, 0);
+    expect_loaded(31, QUIET_LOADS_BASE + 16, 0);
+    expect_served(load_64, COUNTER_ADDRESS, 0, counter++);
+}
+
+static void store_quietly(void)
+{
+    say("quiet stores of each width, at the counter's offset and at the page's end");
+    for (size_t i = 0; i < LENGTH(stores); i++) {
+        expect_served(stores[i], QUIET_STORES_BASE + 16, STORE_VALUE, STORE_VALUE);
+        expect_served(stores[i], QUIET_STORES_BASE + PAGE_SIZE - size_of(stores[i]), STORE_VALUE, STORE_VALUE);
+    }
+    expect_served(store_zero, QUIET_STORES_BASE + 16, STORE_VALUE, STORE_VALUE);
+    expect_served(store_release, QUIET_STORES_BASE + 16, STORE_VALUE, STORE_VALUE);
+}
+
+static void access_quietly_in_a_row(void)
+{
+    const uint64_t count = seen.count;
+    say("two quiet loads and two quiet stores, each the next instruction");
+    expect("accesses in a row", access_in_a_row(QUIET_LOADS_BASE, QUIET_STORES_BASE), 1);
+    expect("exceptions", seen.count - count, 0);
+}
+
+static void access_faults(void)
+{
+    say("the same pages in the other direction, which is a fault at each width");
+    for (size_t i = 0; i < LENGTH(narrow_loads); i++) {
+        expect_abort(narrow_loads[i], QUIET_STORES_BASE + 16, i, DFSC_TRANSLATION(1));
+    }
+    expect_abort(load_64, QUIET_STORES_BASE + 16, 1, DFSC_TRANSLATION(1));
+    for (size_t i = 0; i < LENGTH(stores); i++) {
+        expect_abort(stores[i], QUIET_LOADS_BASE + 8, STORE_VALUE, DFSC_TRANSLATION(1));
+    }
+    say("accesses without a valid syndrome to quiet pages");
+    expect_abort(load_pair, QUIET_LOADS_BASE, 1, DFSC_TRANSLATION(1));
+    expect_abort(load_post_index, QUIET_LOADS_BASE, 2, DFSC_TRANSLATION(1));
+    expect_abort(load_exclusive, QUIET_LOADS_BASE, 3, DFSC_TRANSLATION(1));
+    expect_abort(store_pair, QUIET_STORES_BASE, STORE_VALUE, DFSC_TRANSLATION(1));
+}
+
+static void access_half_served(void)
+{
+    say("a page whose loads are the filtered MMIO page's, and whose stores are quiet");
+    expect_served(load_64, HALF_SERVED_BASE + 16, 0, counter++);
+    expect_abort(load_u32, HALF_SERVED_BASE + 16, 1, DFSC_TRANSLATION(1));
+    expect_served(store_64, HALF_SERVED_BASE + 16, 2, 2);
+    expect_served(load_64, HALF_SERVED_BASE + 16, 0, counter++);
+}
+
+static void load_quietly_by_origin(void)
+{
+    const uint64_t count = seen.count;
+    say("quiet loads from EL1t and from EL0");
+    expect("Rt", at_el1t(QUIET_LOADS_BASE, UINT64_MAX, load_u32), 0);
+    expect("Rt", at_el0(QUIET_LOADS_BASE, UINT64_MAX, load_u32), 0);
+    expect("exceptions", seen.count - count, 0);
 }
 
 /*
@@ -263,9 +354,9 @@ static void make_calls_by_identifier(void)
     }
 }
 
-static void set_quiet(uint64_t quiet)
+static void set_silent(uint64_t silent)
 {
-    uint64_t x[18] = {QUIET_CALL, quiet};
+    uint64_t x[18] = {SILENT_CALL, silent};
     call_hvc(x);
 }
 
@@ -323,7 +414,7 @@ static void abort_by_origin(void)
 
 #define CONTEXT_ID UINT64_C(0x5e7)
 
-enum stage { STARTED, FIRST_TRAPS, LOADS, CALLS, STAGES };
+enum stage { STARTED, FIRST_TRAPS, LOADS, CALLS, QUIET_LOADS, STAGES };
 static volatile enum stage asked;
 static volatile enum stage done;
 
@@ -368,6 +459,15 @@ static uint64_t call_often(void)
     return wrong;
 }
 
+static uint64_t load_quietly_often(void)
+{
+    uint64_t wrong = 0;
+    for (size_t i = 0; i < TRAPS_AT_ONCE; i++) {
+        wrong += load_64(QUIET_LOADS_BASE + 16, UINT64_MAX) != 0;
+    }
+    return wrong;
+}
+
 static void do_stage(enum stage stage)
 {
     switch (stage) {
@@ -382,6 +482,9 @@ static void do_stage(enum stage stage)
         break;
     case CALLS:
         wrong_of_second = call_often();
+        break;
+    case QUIET_LOADS:
+        wrong_of_second = load_quietly_often();
         break;
     default:
         break;
@@ -413,11 +516,11 @@ static void start_second_core(void)
     expect_served(load_64, COUNTER_ADDRESS, 0, counter++);
 }
 
-/* Every load counts once, whichever core makes it; and a core's calls do not disturb another's loads. */
+/* Every load counts once, whichever core makes it; a core's calls and quiet loads do not disturb another's loads. */
 static void trap_at_once(void)
 {
-    say("both cores at once, without lines: loads of the counter, then loads beside calls");
-    set_quiet(1);
+    say("both cores at once, without lines: loads of the counter, loads beside calls, loads beside quiet loads");
+    set_silent(1);
     ask_second_core(LOADS);
     expect("loads out of order", load_ascending(counter), 0);
     await_second_core(LOADS);
@@ -429,7 +532,12 @@ static void trap_at_once(void)
     await_second_core(CALLS);
     expect("calls beside loads, with another answer", wrong_of_second, 0);
     counter += TRAPS_AT_ONCE;
-    set_quiet(0);
+    ask_second_core(QUIET_LOADS);
+    expect("loads beside quiet loads, out of order", load_ascending(counter), 0);
+    await_second_core(QUIET_LOADS);
+    expect("quiet loads beside loads, of another word than 0", wrong_of_second, 0);
+    counter += TRAPS_AT_ONCE;
+    set_silent(0);
     expect_served(load_64, COUNTER_ADDRESS, 0, counter++);
 }
 
@@ -445,7 +553,8 @@ static void trap_at_once(void)
 #define SCTLR_M UINT64_C(1)
 #define SCTLR_A UINT64_C(2)
 
-/* VA_PAGE is the filtered MMIO page, as a device and, two pages on, as memory behind a page that is memory. */
+/* VA_PAGE is the filtered MMIO page, as a device and, two pages on, as memory behind a page that is memory. Then come
+   two pages that are handled in part, as memory too, so that accesses to them need not be aligned. */
 static void enable_mmu(void)
 {
     static _Alignas(4096) uint64_t level1[512];
@@ -460,6 +569,8 @@ static void enable_mmu(void)
     pages[0] = FILTERED_MMIO_BASE | STAGE1_DEVICE;
     pages[1] = (uint64_t)memory | STAGE1_MEMORY;
     pages[2] = FILTERED_MMIO_BASE | STAGE1_MEMORY;
+    pages[3] = QUIET_LOADS_BASE | STAGE1_MEMORY;
+    pages[4] = QUIET_STORES_BASE | STAGE1_MEMORY;
     level2[VA_WALK >> 21] = FILTERED_MMIO_BASE | 3; /* a table that cannot be read */
     WRITE_REGISTER(mair_el1, 0xff00);
     WRITE_REGISTER(tcr_el1, 0x200803519); /* 39 bits of address, 4 KiB granule, write-back, 40 bits of output */
@@ -492,6 +603,14 @@ static void load_across(void)
     expect_served(load_64, VA_PAGE + 2 * PAGE_SIZE - 4, 0, FIRST_WORD);
 }
 
+static void access_unaligned(void)
+{
+    say("quiet accesses that are not aligned");
+    expect_served(load_u32, VA_PAGE + 3 * PAGE_SIZE + 3, UINT64_MAX, 0);
+    expect_served(load_64, VA_PAGE + 3 * PAGE_SIZE + 1, UINT64_MAX, 0);
+    expect_served(store_16, VA_PAGE + 4 * PAGE_SIZE + 3, STORE_VALUE, STORE_VALUE);
+}
+
 static _Noreturn void finish(void)
 {
     struct line line = {.length = 0};
@@ -514,10 +633,21 @@ static void enable_exceptions(void)
     __asm__ volatile("msr daifclr, #3\n\tisb" : : : "memory");
 }
 
-static void trap_without_answer(void)
+/* A quiet access needs no vector. */
+static void trap_without_vector(void)
 {
+    say("a quiet load and a quiet store, and VBAR_EL1 is 0");
+    expect_served(load_64, QUIET_LOADS_BASE, UINT64_MAX, 0);
+    expect_served(store_64, QUIET_STORES_BASE, STORE_VALUE, STORE_VALUE);
     say("an abort is due, and VBAR_EL1 is 0");
     load_64(NOWHERE, 0);
+    load_64(QUIET_STORES_BASE, 0);
+    store_64(QUIET_LOADS_BASE, 0);
+}
+
+static void trap_without_answer(void)
+{
+    trap_without_vector();
     enable_exceptions();
     say("a branch to what is not allowed: a class that RITM does not expect");
     branch(NOWHERE, 0);
@@ -537,12 +667,19 @@ void start_guest(uint64_t context_id, uint64_t core)
     load_each_register();
     access_nowhere();
     load_as_from_memory();
+    load_quietly();
+    store_quietly();
+    access_quietly_in_a_row();
+    access_faults();
+    access_half_served();
     make_calls();
     make_calls_by_identifier();
     abort_by_origin();
+    load_quietly_by_origin();
     start_second_core();
     trap_at_once();
     access_through_mmu();
     load_across();
+    access_unaligned();
     finish();
 }

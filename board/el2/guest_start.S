@@ -133,6 +133,21 @@ guest_vectors:
     probe store_pair, stp x5, x7, [x6]
     probe branch, br x6
 
+/* x0: address of loads, x1: of stores. Gives 1 where each of four accesses in a row is made, and the loads give 0. */
+    .global access_in_a_row
+access_in_a_row:
+    mov x6, x0
+    mov x7, x1
+    mov x0, #-1
+    mov x1, #-1
+    ldr x0, [x6]
+    ldrb w1, [x6]
+    str x0, [x7]
+    strb w1, [x7]
+    add x0, x0, #1
+    add x0, x0, x1
+    ret
+
 /* x0: address, x1: what Rt holds before, x2: probe. The probe from EL1 with SP_EL0, and from EL0. */
     .global at_el1t
 at_el1t:

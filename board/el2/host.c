@@ -1,7 +1,7 @@
 /*
  * A small EL2 host for QEMU's virt board around the proved library, to start another from. It sets up the policy of
- * RITM's src/platform/qemu.rs, maps what the policy allows, enters a guest at EL1 and takes its traps. Each trap prints
- * a line.
+ * RITM's src/platform/qemu.rs, and pages that are handled in part, maps what the policy allows, enters a guest at EL1
+ * and takes its traps. Each trap prints a line.
  *
  * The library is proved. This host, its stage-2 tables and start.S are not: they are tested by the guest below them.
  * What checks.c has is the test's, and so are three of the guest's calls: another host has none of it, and handles what
@@ -41,7 +41,7 @@ static struct {
 } entries[CORES];
 
 /* Whether traps print no lines. */
-static int quiet;
+static int silent;
 
 static uint64_t *words_of(uint64_t core)
 {
@@ -107,6 +107,11 @@ static void allow(uint64_t start, uint64_t end, uint64_t attributes)
     expect("allow", ritm_allow_range(&policy, start, end - start, attributes), RITM_ACCEPTED);
 }
 
+static void handle(uint64_t base, uint64_t read, uint64_t write)
+{
+    expect("handle", ritm_handle_range(&policy, base, PAGE_SIZE, read, write), RITM_ACCEPTED);
+}
+
 /* Whole pages are allowed, wherever the linker puts the heap. */
 static void allow_shared_heap(void)
 {
@@ -123,10 +128,7 @@ static void configure_memory_access(void)
 {
     expect("a fresh policy", ritm_fresh_policy(&policy), RITM_ACCEPTED);
     allow(0, FILTERED_MMIO_BASE, STAGE2_DEVICE_ATTRIBUTES);
-    expect("handle",
-           ritm_handle_range(&policy, FILTERED_MMIO_BASE, PAGE_SIZE, RITM_HANDLER_FILTERED_MMIO,
-                             RITM_HANDLER_FILTERED_MMIO),
-           RITM_ACCEPTED);
+    handle(FILTERED_MMIO_BASE, RITM_HANDLER_FILTERED_MMIO, RITM_HANDLER_FILTERED_MMIO);
     allow(FILTERED_MMIO_BASE + PAGE_SIZE, DRAM_START, STAGE2_DEVICE_ATTRIBUTES);
     allow(DRAM_START, HOST_ADDRESS, STAGE2_MEMORY_ATTRIBUTES);
     allow(HOST_ADDRESS + HOST_SIZE, NORMAL_MEMORY_END, STAGE2_MEMORY_ATTRIBUTES);
@@ -135,11 +137,20 @@ static void configure_memory_access(void)
     allow_shared_heap();
 }
 
+/* Each page comes below the ones before, and so is stored over another's handlers. */
+static void handle_pages_in_part(void)
+{
+    handle(QUIET_STORES_BASE, RITM_HANDLER_FAULT, RITM_HANDLER_ABSENT);
+    handle(QUIET_LOADS_BASE, RITM_HANDLER_ABSENT, RITM_HANDLER_FAULT);
+    handle(HALF_SERVED_BASE, RITM_HANDLER_FILTERED_MMIO, RITM_HANDLER_ABSENT);
+}
+
 static void set_up_state(void)
 {
     struct line line = {.length = 0};
     entries[0].entry_point = GUEST_ADDRESS;
     configure_memory_access();
+    handle_pages_in_part();
     expect("fresh cores", ritm_fresh_cores(&cores), RITM_ACCEPTED);
     add_decimal(&line, "EL2: ranges allowed ", policy.words[RITM_POLICY_ALLOWED_COUNT]);
     add_decimal(&line, ", regions ", policy.words[RITM_POLICY_REGION_COUNT]);
@@ -203,8 +214,8 @@ static void answer_platform(uint64_t core, const uint64_t *values, struct line *
         take_verdict(values[1]);
         reply(core, RITM_REPLY_VALUE, 0, line);
         break;
-    case QUIET_CALL:
-        quiet = values[1] != 0;
+    case SILENT_CALL:
+        silent = values[1] != 0;
         reply(core, RITM_REPLY_VALUE, 0, line);
         break;
     default:
@@ -403,7 +414,7 @@ void handle_sync_lower(struct ritm_registers *frame, uint64_t core)
     }
     memcpy(frame, words_of(core), sizeof *frame);
     add_return(&trap, before, frame, &line);
-    if (!quiet) {
+    if (!silent) {
         print_line(&line);
     }
 }

@@ -10,6 +10,27 @@
 #include "differential.h"
 #include "ritm.h"
 
+/* What accesses by each handler come to; the last stands for the unknown codes. */
+static void print_handler_kinds(const struct outcome *outcome)
+{
+    static const struct {
+        uint64_t handler;
+        uint64_t kind;
+    } met[] = {
+        {RITM_HANDLER_ABSENT, RITM_TRAP_LOAD_HANDLED},
+        {RITM_HANDLER_ABSENT, RITM_TRAP_STORE_HANDLED},
+        {RITM_HANDLER_FILTERED_MMIO, RITM_TRAP_LOAD_HANDLED},
+        {RITM_HANDLER_FILTERED_MMIO, RITM_TRAP_STORE_HANDLED},
+        {RITM_HANDLER_FILTERED_MMIO, RITM_TRAP_ABORT_INJECTED},
+        {RITM_HANDLER_FAULT, RITM_TRAP_ABORT_INJECTED},
+        {HANDLERS - 1, RITM_TRAP_ABORT_INJECTED},
+    };
+    for (size_t i = 0; i < sizeof met / sizeof met[0]; i++) {
+        printf("trap kind %" PRIu64 " by handler %" PRIu64 ": %" PRIu64 "\n", met[i].kind, met[i].handler,
+               outcome->handler_kinds[met[i].handler][met[i].kind]);
+    }
+}
+
 int main(int argc, char **argv)
 {
     if (argc != 3) {
@@ -33,6 +54,7 @@ int main(int argc, char **argv)
             printf("trap kind %zu with the hint: %" PRIu64 "\n", kind, outcome.hinted_kinds[kind]);
         }
     }
+    print_handler_kinds(&outcome);
     printf("seed %" PRIu64 ", calls %" PRIu64 ", hash 0x%" PRIx64 "\n", seed, calls, outcome.hash);
     if (outcome.changed_beside != 0) {
         puts("a byte beside a buffer was changed");

@@ -75,6 +75,10 @@ static void count_traps(void)
     fill_policy(16, 0);
     COUNT("trap_load_16", trap(ESR_LOAD, FILTERED_MMIO_BASE + 24));
     COUNT("trap_injected_16", trap(ESR_LOAD, FILTERED_MMIO_BASE + PAGE));
+    ritm_fresh_policy(&policy);
+    ritm_handle_range(&policy, FILTERED_MMIO_BASE, PAGE, RITM_HANDLER_ABSENT, RITM_HANDLER_ABSENT);
+    COUNT("trap_quiet_load", trap(ESR_LOAD, FILTERED_MMIO_BASE + 24));
+    COUNT("trap_quiet_store", trap(ESR_STORE, FILTERED_MMIO_BASE + 8));
 }
 
 static void count_calls(void)

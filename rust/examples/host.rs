@@ -1,11 +1,12 @@
 //! A small EL2 host, the same as `examples/host.c` in Rust: it sets up the policy of RITM's
-//! src/platform/qemu.rs, then takes the traps of a guest that boots. There is no guest: where a
-//! host would enter EL1, this one sets the register that a guest would have set. Each step prints a
-//! line. A step that answers otherwise than expected ends the program with status 1.
+//! src/platform/qemu.rs, and two pages of its own, then takes the traps of a guest that boots. There
+//! is no guest: where a host would enter EL1, this one sets the register that a guest would have set.
+//! Each step prints a line. A step that answers otherwise than expected ends the program with
+//! status 1.
 
 use ritm::{
-    align_down_to_page, align_up_to_page, Cores, HvcReply, MemoryAccessHandler, Policy, Refusal, Registers,
-    SuspendCoreData, SuspendMap, TrapAnswer, TrapRegisters,
+    align_down_to_page, align_up_to_page, Cores, HvcReply, MemoryAccessHandler, MemoryHandler, Policy, Refusal,
+    Registers, SuspendCoreData, SuspendMap, TrapAnswer, TrapRegisters,
 };
 use std::fmt::Debug;
 use std::process;
@@ -28,6 +29,11 @@ const SHARED_HEAP_SIZE: u64 = 16 * PAGE_SIZE;
 // Chosen here: RITM's build gives the address of its image, and the linker that of the heap in it.
 const RITM_IMAGE_ADDRESS: u64 = 0x7000_0000;
 const SHARED_HEAP_ADDRESS: u64 = RITM_IMAGE_ADDRESS + 0x2a_0840;
+
+// Chosen here: a page of which the loads alone are served, and one of which nothing is.
+const HALF_SERVED_BASE: u64 = 0x3_0000_0000;
+const UNSERVED_BASE: u64 = HALF_SERVED_BASE + PAGE_SIZE;
+const UNSERVED_END: u64 = UNSERVED_BASE + PAGE_SIZE;
 
 // Stage-2 descriptors (Arm DDI 0487): valid, read and write, access flag; memory is write-back and
 // inner shareable.
@@ -73,9 +79,10 @@ const UNKNOWN_CALL: u64 = 0xc500_0000;
 const UPPER_HALF: u64 = 0x1_0000_0000;
 const SVE_HINT: u64 = 0x1_0000;
 
-// What the filtered MMIO page takes.
+// What the filtered MMIO page takes, and where its counter is.
 const STORE_OFFSET: u64 = 8;
 const STORE_VALUE: u64 = 0x1234_5678_9abc_def0;
+const COUNTER_OFFSET: u64 = 16;
 
 struct Host {
     policy: Policy,
@@ -101,6 +108,7 @@ fn expect<T: Debug + PartialEq>(what: &str, answer: T, expected: T) {
 impl Host {
     fn run(&mut self) -> Result<(), Refusal> {
         self.configure_memory_access()?;
+        self.handle_pages_in_part()?;
         self.allow_a_page_twice();
         self.count_ranges();
         self.find_addresses();
@@ -117,10 +125,10 @@ impl Host {
         Ok(())
     }
 
-    fn handle(&mut self, start: u64, end: u64, what: &str) -> Result<(), Refusal> {
-        let handler = MemoryAccessHandler::FILTERED_MMIO;
+    fn handle(&mut self, start: u64, end: u64, handler: MemoryAccessHandler, what: &str) -> Result<(), Refusal> {
         self.policy.handle_range(start, end - start, handler)?;
-        println!("policy: handle {start:#x} to {end:#x}, {what}");
+        let (read, write) = (handler.read as u64, handler.write as u64);
+        println!("policy: handle {start:#x} to {end:#x}, {what}: loads by handler {read}, stores by {write}");
         Ok(())
     }
 
@@ -128,6 +136,7 @@ impl Host {
     fn configure_memory_access(&mut self) -> Result<(), Refusal> {
         let device = STAGE2_DEVICE_ATTRIBUTES;
         let memory = STAGE2_MEMORY_ATTRIBUTES;
+        let filtered = MemoryAccessHandler::FILTERED_MMIO;
         let ritm_start = RITM_IMAGE_ADDRESS;
         let ritm_end = RITM_IMAGE_ADDRESS + RITM_IMAGE_SIZE;
         let before_page = "device memory before the filtered MMIO page";
@@ -135,7 +144,7 @@ impl Host {
         let before_image = "normal memory before the RITM image";
         let after_image = "normal memory after the RITM image";
         self.allow(0, FILTERED_MMIO_BASE, device, before_page)?;
-        self.handle(FILTERED_MMIO_BASE, FILTERED_MMIO_END, "the filtered MMIO page")?;
+        self.handle(FILTERED_MMIO_BASE, FILTERED_MMIO_END, filtered, "the filtered MMIO page")?;
         self.allow(FILTERED_MMIO_END, DRAM_START, device, after_page)?;
         self.allow(DRAM_START, ritm_start, memory, before_image)?;
         self.allow(ritm_end, NORMAL_MEMORY_END, memory, after_image)?;
@@ -145,6 +154,15 @@ impl Host {
         let heap_start = align_down_to_page(SHARED_HEAP_ADDRESS);
         let heap_end = align_up_to_page(SHARED_HEAP_ADDRESS + SHARED_HEAP_SIZE)?;
         self.allow(heap_start, heap_end, memory, "the shared heap")
+    }
+
+    /// Each direction has its own handler. The one page's stores are dropped; the other's loads give
+    /// 0, and its stores are a fault.
+    fn handle_pages_in_part(&mut self) -> Result<(), Refusal> {
+        let half_served = MemoryAccessHandler { read: MemoryHandler::FilteredMmio, write: MemoryHandler::Absent };
+        let unserved = MemoryAccessHandler { read: MemoryHandler::Absent, write: MemoryHandler::Fault };
+        self.handle(HALF_SERVED_BASE, UNSERVED_BASE, half_served, "a page that is half served")?;
+        self.handle(UNSERVED_BASE, UNSERVED_END, unserved, "a page that is not served")
     }
 
     fn allow_a_page_twice(&mut self) {
@@ -160,12 +178,12 @@ impl Host {
         let allowed = self.policy.allowed_ranges().count();
         let regions = self.policy.regions().count();
         expect("allowed ranges", allowed, 7);
-        expect("regions", regions, 1);
+        expect("regions", regions, 3);
         println!("policy: allowed ranges {allowed}, regions {regions}");
     }
 
     fn find_addresses(&self) {
-        for ipa in [FILTERED_MMIO_BASE + 16, UART_BASE_ADDRESS] {
+        for ipa in [FILTERED_MMIO_BASE + COUNTER_OFFSET, UART_BASE_ADDRESS] {
             let found = self.policy.find(ipa);
             expect("an address that is handled", found.is_some(), ipa >= FILTERED_MMIO_BASE);
             match found {
@@ -186,6 +204,7 @@ impl Host {
         self.call_by_identifier(0)?;
         self.load_words()?;
         self.store_words(0)?;
+        self.probe_pages(1)?;
         self.expect_refused_trap(8, "a trap on a ninth core", Refusal::NoSuchCore);
         Ok(())
     }
@@ -267,47 +286,68 @@ impl Host {
         Ok(())
     }
 
+    fn load(&mut self, core: u64, what: &str, ipa: u64, word: u64) -> Result<(), Refusal> {
+        expect("a load", self.trap(core, ESR_LOAD, ipa)?, TrapAnswer::LoadHandled);
+        expect("a loaded word", self.cores.read_gpr(core, RT)?, word);
+        let elr = self.cores.registers(core)?.elr;
+        println!("core {core}: {what} at {ipa:#x}: x{RT} {word:#x}, ELR {elr:#x}");
+        Ok(())
+    }
+
     /// Each word of the filtered MMIO page, and the counter once more, from another core too: it
     /// grows by each load.
     fn load_words(&mut self) -> Result<(), Refusal> {
         let loads = [
             (0, 0, 0xfeed_face_cafe_beef),
-            (0, 16, 0),
-            (0, 16, 1),
+            (0, COUNTER_OFFSET, 0),
+            (0, COUNTER_OFFSET, 1),
             (0, 24, 0x1111_2222_3333_4444),
             (0, 32, 0x5555_6666_7777_8888),
             (0, 40, 0x9999_aaaa_bbbb_cccc),
-            (1, 16, 2),
+            (1, COUNTER_OFFSET, 2),
         ];
         for (core, offset, word) in loads {
-            let ipa = FILTERED_MMIO_BASE + offset;
-            expect("a load", self.trap(core, ESR_LOAD, ipa)?, TrapAnswer::LoadHandled);
-            expect("a loaded word", self.cores.read_gpr(core, RT)?, word);
-            let elr = self.cores.registers(core)?.elr;
-            println!("core {core}: load at {ipa:#x}: x{RT} {word:#x}, ELR {elr:#x}");
+            self.load(core, "load", FILTERED_MMIO_BASE + offset, word)?;
         }
         Ok(())
     }
 
-    fn store_words(&mut self, core: u64) -> Result<(), Refusal> {
-        let ipa = FILTERED_MMIO_BASE + STORE_OFFSET;
-        self.run_guest(core, RT, STORE_VALUE)?;
-        expect("the store", self.trap(core, ESR_STORE, ipa)?, TrapAnswer::StoreHandled);
+    fn store(&mut self, core: u64, what: &str, ipa: u64, value: u64) -> Result<(), Refusal> {
+        self.run_guest(core, RT, value)?;
+        expect("a store", self.trap(core, ESR_STORE, ipa)?, TrapAnswer::StoreHandled);
         let elr = self.cores.registers(core)?.elr;
-        println!("core {core}: store of {STORE_VALUE:#x} at {ipa:#x}: handled, ELR {elr:#x}");
+        println!("core {core}: {what} of {value:#x} at {ipa:#x}: handled, ELR {elr:#x}");
+        Ok(())
+    }
 
-        let bad = STORE_VALUE + 1;
-        self.run_guest(core, RT, bad)?;
-        expect("the bad store", self.trap(core, ESR_STORE, ipa)?, TrapAnswer::AbortInjected);
+    fn store_aborted(&mut self, core: u64, ipa: u64, value: u64) -> Result<(), Refusal> {
+        self.run_guest(core, RT, value)?;
+        expect("a bad store", self.trap(core, ESR_STORE, ipa)?, TrapAnswer::AbortInjected);
         let Registers { elr, spsr, .. } = self.cores.registers(core)?;
         expect("ELR at the guest's vector", elr, GUEST_VBAR + 0x200);
-        println!("core {core}: store of {bad:#x} at {ipa:#x}: abort injected, ELR {elr:#x}");
+        println!("core {core}: store of {value:#x} at {ipa:#x}: abort injected, ELR {elr:#x}");
         let el1 = self.cores.fault_registers(core)?;
         println!(
             "core {core}: SPSR {spsr:#x}, ELR_EL1 {:#x}, SPSR_EL1 {:#x}, FAR_EL1 {:#x}, ESR_EL1 {:#x}",
             el1.elr, el1.spsr, el1.far, el1.esr
         );
         Ok(())
+    }
+
+    fn store_words(&mut self, core: u64) -> Result<(), Refusal> {
+        let ipa = FILTERED_MMIO_BASE + STORE_OFFSET;
+        self.store(core, "store", ipa, STORE_VALUE)?;
+        self.store_aborted(core, ipa, STORE_VALUE + 1)
+    }
+
+    /// A guest probes pages that are served in part. Through an absent handler a store is dropped and
+    /// a load gives 0, and does not count; handler 2 is the abort.
+    fn probe_pages(&mut self, core: u64) -> Result<(), Refusal> {
+        self.load(core, "load", HALF_SERVED_BASE + COUNTER_OFFSET, 3)?;
+        self.store(core, "quiet store", HALF_SERVED_BASE + COUNTER_OFFSET, 7)?;
+        self.load(core, "quiet load", UNSERVED_BASE + COUNTER_OFFSET, 0)?;
+        self.load(core, "load", HALF_SERVED_BASE + COUNTER_OFFSET, 4)?;
+        self.store_aborted(core, UNSERVED_BASE + COUNTER_OFFSET, 7)
     }
 }
 

@@ -83,12 +83,13 @@ mod tests {
         let mut policy = Policy::new();
         policy.allow_range(0x3000, 0x2000, 0x7fd).unwrap();
         policy.allow_range(0x1000, 0x1000, 0x4c1).unwrap();
-        let read_only = MemoryAccessHandler { read: MemoryHandler::FilteredMmio, write: MemoryHandler::Absent };
-        policy.handle_range(0x9000, 0x1000, MemoryAccessHandler::FILTERED_MMIO).unwrap();
+        let read_only = MemoryAccessHandler { read: MemoryHandler::FilteredMmio, write: MemoryHandler::Fault };
+        let probed = MemoryAccessHandler { read: MemoryHandler::Absent, write: MemoryHandler::Absent };
+        policy.handle_range(0x9000, 0x1000, probed).unwrap();
         policy.handle_range(0x8000, 0x1000, read_only).unwrap();
         assert!(policy.allowed_ranges().map(|range| range.attributes).eq([0x7fd, 0x4c1]));
         assert!(policy.regions().map(|region| region.end_ipa).eq([0x9000, 0xa000]));
-        assert_eq!(policy.regions().next().map(|region| region.handler), Some(read_only));
+        assert!(policy.regions().map(|region| region.handler).eq([read_only, probed]));
         assert_eq!(Policy::from_bytes(*policy.as_bytes()), policy);
     }
 
@@ -150,6 +151,73 @@ mod tests {
         assert_eq!(cores.registers(0).unwrap().elr, 0x8_0200);
         assert_eq!(cores.fault_registers(0).unwrap().esr, 0x97C5_8000);
         assert_eq!(cores.counter(), 0);
+    }
+
+    /// A 64-bit load into x5, 16 above [`REGION`], and a store from it, by a guest without a vector.
+    const LOAD: TrapRegisters = TrapRegisters { esr: 0x93C5_8000, fipa: 0xF000, far: 0x10, vbar: 0 };
+    const STORE: TrapRegisters = TrapRegisters { esr: LOAD.esr | 0x40, ..LOAD };
+    const REGION: u64 = 0x0F00_0000;
+
+    /// A guest at the last instruction that there is.
+    const GUEST: Registers = Registers { x: [7; 31], elr: u64::MAX - 3, spsr: EL1H };
+
+    fn guest_core() -> Cores {
+        let mut cores = Cores::new();
+        cores.save(0, &GUEST).unwrap();
+        cores
+    }
+
+    fn one_region(read: MemoryHandler, write: MemoryHandler) -> Policy {
+        let mut policy = Policy::new();
+        policy.handle_range(REGION, 0x1000, MemoryAccessHandler { read, write }).unwrap();
+        policy
+    }
+
+    #[test]
+    fn an_absent_handler_answers_quietly() {
+        let mut cores = guest_core();
+        let store = cores.trap(0, &one_region(MemoryHandler::Fault, MemoryHandler::Absent), &STORE);
+        assert_eq!(store, Ok(TrapAnswer::StoreHandled));
+        assert_eq!(cores.registers(0), Ok(Registers { elr: 0, ..GUEST }));
+        let load = cores.trap(0, &one_region(MemoryHandler::Absent, MemoryHandler::Fault), &LOAD);
+        assert_eq!(load, Ok(TrapAnswer::LoadHandled));
+        let mut x = GUEST.x;
+        x[5] = 0;
+        assert_eq!(cores.registers(0), Ok(Registers { x, elr: 4, ..GUEST }));
+        assert_eq!(cores.counter(), 0);
+    }
+
+    /// Each access gives the guest the abort, or is refused where it has no vector.
+    fn expect_faults(policy: &Policy, accesses: &[TrapRegisters]) {
+        for access in accesses {
+            let mut cores = guest_core();
+            assert_eq!(cores.trap(0, policy, access), Err(Refusal::NoGuestVector));
+            assert_eq!(cores, guest_core());
+            let with_vector = TrapRegisters { vbar: 0x8_0000, ..*access };
+            assert_eq!(cores.trap(0, policy, &with_vector), Ok(TrapAnswer::AbortInjected));
+            assert_eq!(cores.fault_registers(0).map(|el1| el1.elr), Ok(GUEST.elr));
+        }
+    }
+
+    #[test]
+    fn a_fault_is_the_guests_abort() {
+        expect_faults(&one_region(MemoryHandler::Fault, MemoryHandler::Absent), &[LOAD]);
+        expect_faults(&one_region(MemoryHandler::Absent, MemoryHandler::Fault), &[STORE]);
+    }
+
+    #[test]
+    fn an_unknown_handler_in_bytes_is_a_fault() {
+        for code in [3, u64::MAX] {
+            let mut bytes = *one_region(MemoryHandler::Absent, MemoryHandler::Absent).as_bytes();
+            // The words of the first region's handlers.
+            for word in [132, 133] {
+                bytes[8 * word..8 * word + 8].copy_from_slice(&code.to_le_bytes());
+            }
+            let policy = Policy::from_bytes(bytes);
+            let fault = MemoryAccessHandler { read: MemoryHandler::Fault, write: MemoryHandler::Fault };
+            assert!(policy.regions().map(|region| region.handler).eq([fault]));
+            expect_faults(&policy, &[LOAD, STORE]);
+        }
     }
 
     #[test]

@@ -108,7 +108,7 @@ pub fn word(bytes: &[u8], k: usize) -> u64 {
     u64::from_le_bytes(bytes[8 * k..8 * k + 8].try_into().expect("eight bytes"))
 }
 
-fn put(bytes: &mut [u8], k: usize, word: u64) {
+pub fn put(bytes: &mut [u8], k: usize, word: u64) {
     bytes[8 * k..8 * k + 8].copy_from_slice(&word.to_le_bytes());
 }
 
@@ -121,6 +121,9 @@ fn put_range(bytes: &mut [u8], k: usize, random: &mut Random) {
     put(bytes, k + 2, base.wrapping_add(size));
 }
 
+/// The codes of regions' handlers, of which those above 2 are unknown.
+const HANDLERS: [u64; 8] = [0, 0, 1, 1, 1, 2, 3, u64::MAX];
+
 fn fill_policy(bytes: &mut [u8], random: &mut Random) {
     for k in 0..32 {
         put_range(bytes, k * ALLOWED_WORDS, random);
@@ -128,8 +131,8 @@ fn fill_policy(bytes: &mut [u8], random: &mut Random) {
     for k in 0..16 {
         let at = REGIONS + k * REGION_WORDS;
         put_range(bytes, at, random);
-        put(bytes, at + 3, random.one_of(&[0, 1, 1, 1, 2]));
-        put(bytes, at + 4, random.one_of(&[0, 1, 1, 1, 2]));
+        put(bytes, at + 3, random.one_of(&HANDLERS));
+        put(bytes, at + 4, random.one_of(&HANDLERS));
     }
     let counts = [0, 0, 1, 2, 4, 8, 15, 16, 17, 31, 32, 33, u64::MAX];
     put(bytes, ALLOWED_COUNT, random.one_of(&counts));

@@ -2,6 +2,7 @@
 
 use crate::buffers::{word, Buffer, TRAP_HINT};
 use crate::entry_points::{EntryPoint, Numbers, Use, ENTRY_POINTS};
+use crate::handlers::{handled_region_fits, Access};
 use crate::lent::Lent;
 use crate::random::Random;
 
@@ -87,7 +88,18 @@ impl Call {
             };
             ensure(holds, || format!("it returned {number} and left wrong bytes in {buffer:?}"))?;
         }
-        Ok(())
+        ensure(self.handlers_fit(outcome), || format!("it returned {number}, which its handlers do not call for"))
+    }
+
+    /// Whether a handle call stored its region's handlers, and an access went by them.
+    fn handlers_fit(&self, outcome: &Outcome) -> bool {
+        let (before, after) = (&self.before, &outcome.after);
+        if self.entry.name == "ritm_handle_range" && outcome.number == 0 {
+            return handled_region_fits(self.numbers, &before[0], &after[0]);
+        }
+        let kind = self.trap_kind_and_hint(outcome).map_or(0, |(kind, _)| kind);
+        self.access(outcome)
+            .is_none_or(|access| access.fits(self.numbers, outcome.number, kind, &before[1], &after[1]))
     }
 
     fn may_return(&self, number: u64) -> bool {
@@ -103,6 +115,12 @@ impl Call {
         let changed = |k: &usize| word(before, *k) != word(after, *k);
         let mut words = (0..before.len() / 8).filter(changed);
         words.all(|k| (self.entry.may_change)(self.numbers, before, k))
+    }
+
+    /// The access to a region that a trap describes, if its core took the trap.
+    pub fn access(&self, outcome: &Outcome) -> Option<Access> {
+        let was_taken = self.entry.name == "ritm_trap" && [0, 13].contains(&outcome.number);
+        was_taken.then(|| Access::of(self.numbers, &self.before[0])).flatten()
     }
 
     /// The kind that a trap came to, 0 for a refused one, and its hint.

@@ -237,8 +237,17 @@ fn any_numbers(random: &mut Random, _: &[Vec<u8>]) -> Numbers {
 fn range_numbers(random: &mut Random, _: &[Vec<u8>]) -> Numbers {
     let base = if random.once_in(4) { random.any() } else { random.page() };
     let size = if random.once_in(4) { random.any() } else { 0x1000 * (1 + random.below(3)) };
+    [base, size, handler_number(random), handler_number(random), 0]
+}
+
+/// Mostly the number of a handler, at times the first that is none, or any.
+fn handler_number(random: &mut Random) -> u64 {
     let handlers = MemoryHandler::ALL.len() as u64;
-    [base, size, random.mostly_below(handlers), random.mostly_below(handlers), 0]
+    if random.once_in(16) {
+        handlers
+    } else {
+        random.mostly_below(handlers)
+    }
 }
 
 /// Core, index, value.

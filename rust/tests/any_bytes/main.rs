@@ -1,5 +1,6 @@
 //! Any bytes and any numbers: each entry point returns a number of its own, leaves every state as
-//! it was when it refuses, writes its results whole, and writes nothing else.
+//! it was when it refuses, writes its results whole, and writes nothing else. Regions go by their
+//! handlers' codes, whatever these are.
 //!
 //! The seed is fixed; `RITM_SEED` names another.
 
@@ -7,6 +8,7 @@ mod blob;
 mod buffers;
 mod call;
 mod entry_points;
+mod handlers;
 mod lent;
 mod met;
 mod random;
