@@ -1,10 +1,12 @@
 -- Laws of ranges and regions in lent bytes: what was stored is read back, and what stands beside it is as it was. Assumes nothing.
-use Prim.Native.Nat.{ℕ, _+_, _<_}
+use Prim.Native.Nat.{ℕ, zero, suc, _+_, _<_, _≤_}
 use mathlib.Core.Path.{_≡_, refl, ap, _∙_}
 use mathlib.Core.Bool.{Bool, true, false, cond}
 use mathlib.Core.List.{List, [], _∷_}
 use native.Mathlib.Omega.{arith}
 use native.Mathlib.Nat.{add-zero, zero-add}
+use borrow.Author.Tests.{le-ltb}
+use lib.Dec.{ltb}
 use lib.ListN.{length, getD}
 use Rattle.lists.proofs.Laws.{cond-all}
 use Rattle.lent_words.specs.Words.{wordAt, each, FitsWord, Bytes, Lent}
@@ -14,11 +16,12 @@ use Rattle.lent_words.proofs.Records.{InWords, record-written, record-kept}
 use Rattle.stage2_range.specs.declared.Stage2Range.{Stage2Range}
 use Rattle.stage2_range.specs.declared.MemoryAccessRegion.{MemoryAccessRegion}
 use Rattle.stage2_range.specs.declared.MemoryHandler.{MemoryHandler}
+use Rattle.stage2_range.specs.declared.MemoryHandler.the-variants.{Fault}
 use Rattle.stage2_range.specs.Ranges.{rangeOf, rangeWords}
 use Rattle.stage2_range.specs.Handlers.{handlerOf, handlerNumber, sameHandler}
 use Rattle.stage2_range.specs.Registry.{regionOf}
 use Rattle.stage2_range.proofs.Ranges.{end-fits}
-use Rattle.stage2_range.proofs.Handlers.{handler-code, same-handler}
+use Rattle.stage2_range.proofs.Handlers.{handler-code, same-handler, above-fault}
 use Rattle.lent_policy.specs.Layout.{policySize, rangeStart, allowedCountAt, regionStart, regionCountAt, rangeAt, withRange, regionAt, keptHandler, regionStored, withRegion, readWord, writeWord}
 
 -- one of the thirty-two ranges
@@ -36,6 +39,28 @@ handler-back old h = go (sameHandler (handlerOf old) h) refl
     go : (same : Bool) → sameHandler (handlerOf old) h ≡ same → handlerOf (cond same old (handlerNumber h)) ≡ h
     go true e = same-handler (handlerOf old) h e
     go false e = handler-code h .1
+
+-- a number below the fault's is the word for its handler, whatever stands there: no other word means it
+pub kept-low : (word n : ℕ) → n < 2 → keptHandler word (handlerOf n) ≡ n
+kept-low zero zero h = refl
+kept-low (suc zero) zero h = refl
+kept-low (suc (suc zero)) zero h = refl
+kept-low (suc (suc (suc word))) zero h = refl
+kept-low zero (suc zero) h = refl
+kept-low (suc zero) (suc zero) h = refl
+kept-low (suc (suc zero)) (suc zero) h = refl
+kept-low (suc (suc (suc word))) (suc zero) h = refl
+kept-low word (suc (suc n)) h = absurd (omega arith)
+
+-- from the fault's number on every word means the fault, and stays
+pub kept-fault : (word n : ℕ) → 2 ≤ n → keptHandler word (handlerOf n) ≡ cond (ltb word 2) 2 word
+kept-fault word n h = rw (above-fault n h) (go word)
+  where
+    go : (word : ℕ) → keptHandler word Fault ≡ cond (ltb word 2) 2 word
+    go zero = refl
+    go (suc zero) = refl
+    go (suc (suc zero)) = refl
+    go (suc (suc (suc word))) = rw (le-ltb (suc (suc (suc word))) 2 (omega arith))
 
 -- the range that words make
 abbrev pub rangeFrom : List ℕ → Stage2Range

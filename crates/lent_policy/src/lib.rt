@@ -7,12 +7,14 @@ ghost use lib.ListN.{set};
 ghost use Rattle.lists.specs.Lists.{firstIndex, insertAt};
 ghost use Rattle.lent_words.specs.Words.{wordAt, each, storeEach, Leaves};
 ghost use Rattle.stage2_range.specs.Ranges.{answerOf, hasByte, sharesByte, rangeBytes, overlapsAllowed};
+ghost use Rattle.stage2_range.specs.Handlers.{handlerOf};
 ghost use Rattle.stage2_range.specs.Registry.{regionBytes, hasAddress, overlapsRegions, findRegion, insertRegion};
 ghost use Rattle.stage2.specs.Policy.{allowedHeld, regionsHeld, allowCases, allowAnswer, handleCases, handleAnswer};
 ghost use Rattle.lent_policy.specs.Layout.{allowedCountAt, regionCountAt, bytesAt, rangeAt, regionAt, keptHandler, policyAt, withRange, withRegion, withAllowed, withRegions};
 ghost use Rattle.lent_policy.specs.Calls.{allowCall, handleCall, findCall};
 use lent_words::THREE_WORDS;
 use memory_access::Ipa;
+use stage2_range::FAULT_HANDLER;
 use stage2_range::MAX_ALLOWED_RANGES;
 use stage2_range::MAX_MEMORY_ACCESS_HANDLERS;
 use stage2_range::MemoryAccessHandler;
@@ -90,14 +92,43 @@ fn get_region(policy: &[u8; POLICY_SIZE], place: usize) -> MemoryAccessRegion
     }
 }
 
-// The word to store for a handler: the one that stands there stays if it means the handler.
-fn kept_handler(policy: &[u8; POLICY_SIZE], at: usize, handler: MemoryHandler) -> u64
-    ensures { λ r. ⌜ r ≡ keptHandler (wordAt (now (policy .entry)) at) handler ⌝ }
+// The word to store for the handler that a number names: the one that stands there stays if it means the handler. Only the fault
+// has more than one word that means it.
+fn kept_handler(policy: &[u8; POLICY_SIZE], at: usize, number: u64) -> u64
+    ensures { λ r. ⌜ r ≡ keptHandler (wordAt (now (policy .entry)) at) (handlerOf number) ⌝ }
 {
-    let code = handler.number();
     let word = lent_words::get_word(policy, at);
-    let stored = MemoryHandler::from_number(word);
-    if stored.number() == code { word } else { code }
+    if number < FAULT_HANDLER {
+        return number;
+    }
+    if word < FAULT_HANDLER {
+        FAULT_HANDLER
+    } else {
+        word
+    }
+}
+
+// Stores a region by its numbers, those of its handlers last.
+fn put_region_words(
+    policy: &mut [u8; POLICY_SIZE],
+    place: usize,
+    base_ipa: u64,
+    size: u64,
+    end_ipa: u64,
+    read: u64,
+    write: u64,
+)
+    requires { ⌜ place < 16 ⌝ }
+    ensures { λ _. ⌜ now (policy .exit) ≡ withRegion (now (policy .entry)) place (record { «base_ipa» = «base_ipa»; size = size; handler = record { read = handlerOf read; write = handlerOf write }; «end_ipa» = «end_ipa» }) ⌝ }
+{
+    let at = REGIONS + REGION_WORDS * place;
+    let read_code = kept_handler(policy, at + READ_WORD, read);
+    let write_code = kept_handler(policy, at + WRITE_WORD, write);
+    lent_words::put_word(policy, at, base_ipa);
+    lent_words::put_word(policy, at + SIZE_WORD, size);
+    lent_words::put_word(policy, at + END_WORD, end_ipa);
+    lent_words::put_word(policy, at + READ_WORD, read_code);
+    lent_words::put_word(policy, at + WRITE_WORD, write_code);
 }
 
 // Stores a region.
@@ -105,17 +136,33 @@ fn put_region(policy: &mut [u8; POLICY_SIZE], place: usize, region: MemoryAccess
     requires { ⌜ place < 16 ⌝ }
     ensures { λ _. ⌜ now (policy .exit) ≡ withRegion (now (policy .entry)) place region ⌝ }
 {
-    let at = REGIONS + REGION_WORDS * place;
     let handler = region.handler;
     let read = handler.read;
     let write = handler.write;
-    let read_code = kept_handler(policy, at + READ_WORD, read);
-    let write_code = kept_handler(policy, at + WRITE_WORD, write);
-    lent_words::put_word(policy, at, region.base_ipa);
-    lent_words::put_word(policy, at + SIZE_WORD, region.size);
-    lent_words::put_word(policy, at + END_WORD, region.end_ipa);
-    lent_words::put_word(policy, at + READ_WORD, read_code);
-    lent_words::put_word(policy, at + WRITE_WORD, write_code);
+    put_region_words(
+        policy,
+        place,
+        region.base_ipa,
+        region.size,
+        region.end_ipa,
+        read.number(),
+        write.number(),
+    );
+}
+
+// Stores a region at the next place too. (By its words: to make a handler of each code and a number of that again took a quarter more
+// instructions.)
+fn copy_region(policy: &mut [u8; POLICY_SIZE], place: usize)
+    requires { ⌜ place < 15 ⌝ }
+    ensures { λ _. ⌜ now (policy .exit) ≡ withRegion (now (policy .entry)) (place + 1) (regionAt (now (policy .entry)) place) ⌝ }
+{
+    let from = REGIONS + REGION_WORDS * place;
+    let base_ipa = lent_words::get_word(policy, from);
+    let size = lent_words::get_word(policy, from + SIZE_WORD);
+    let end_ipa = lent_words::get_word(policy, from + END_WORD);
+    let read = lent_words::get_word(policy, from + READ_WORD);
+    let write = lent_words::get_word(policy, from + WRITE_WORD);
+    put_region_words(policy, place + 1, base_ipa, size, end_ipa, read, write);
 }
 
 // How many ranges there are, as the bytes say.
@@ -343,8 +390,7 @@ fn place_at(policy: &mut [u8; POLICY_SIZE], n: u64, at: u64, region: MemoryAcces
     lent_words::are_bytes(policy);
     let mut place = n;
     while at < place {
-        let below = get_region(policy, (place - 1) as usize);
-        put_region(policy, place as usize, below);
+        copy_region(policy, (place - 1) as usize);
         place -= 1;
     }
     put_region(policy, at as usize, region);

@@ -1,5 +1,5 @@
 -- Laws on the handlers and their numbers. Assumes nothing.
-use Prim.Native.Nat.{ℕ, zero, suc, _<_}
+use Prim.Native.Nat.{ℕ, zero, suc, _<_, _≤_}
 use mathlib.Core.Path.{_≡_, refl, sym, ap, _∙_}
 use mathlib.Core.Bool.{true, cond}
 use native.Mathlib.Omega.{arith}
@@ -22,12 +22,12 @@ named-number (suc zero) = refl
 named-number (suc (suc zero)) = refl
 named-number (suc (suc (suc n))) = rw (le-ltb (suc (suc (suc n))) (length handlers) (omega arith))
 
--- a number that names no other handler names the fault
-pub other-fault : (n : ℕ) → (n ≡ 0 → ⊥) → (n ≡ 1 → ⊥) → handlerOf n ≡ Fault
-other-fault zero h k = absurd (h refl)
-other-fault (suc zero) h k = absurd (k refl)
-other-fault (suc (suc zero)) h k = refl
-other-fault (suc (suc (suc n))) h k = refl
+-- the fault's number and every larger one name the fault
+pub above-fault : (n : ℕ) → 2 ≤ n → handlerOf n ≡ Fault
+above-fault zero h = absurd (omega arith)
+above-fault (suc zero) h = absurd (omega arith)
+above-fault (suc (suc zero)) h = refl
+above-fault (suc (suc (suc n))) h = refl
 
 -- handlers that are found to be the same are equal
 pub same-handler : (h k : MemoryHandler) → sameHandler h k ≡ true → h ≡ k

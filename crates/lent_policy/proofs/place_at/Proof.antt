@@ -1,6 +1,6 @@
 -- The loop's invariant: the regions from `place` up to `n` stand one place further (`shifted`).
 use native.Mathlib.Omega.{arith}
-use Prim.Native.Nat.{_≤_, _-_}
+use Prim.Native.Nat.{_+_, _-_, _≤_}
 use mathlib.Core.Path.{_≡_, sym}
 use Rattle.lent_words.specs.Words.{Lent}
 use Rattle.lent_policy.specs.Layout.{policySize, regionAt, withRegion}
@@ -24,14 +24,11 @@ loop-holds c =
     let a = c .before .before .before .args in
     (omega arith, omega arith, sym (shift-none regionAt withRegion (Lent policySize) region-lent region-rewritten region-beside region-comm (a .n) (a .policy .now)))
 
-sub-get-region : tie.Need-sub-get-region Inv-loop μ-loop
-sub-get-region c = omega arith
+sub-copy-region : tie.Need-sub-copy-region Inv-loop μ-loop
+sub-copy-region c = omega arith
 
-get-region-requires : tie.Need-get-region-requires Inv-loop μ-loop
-get-region-requires c κs = omega arith
-
-put-region-requires : tie.Need-put-region-requires Inv-loop μ-loop
-put-region-requires c κs = omega arith
+copy-region-requires : tie.Need-copy-region-requires Inv-loop μ-loop
+copy-region-requires c κs = omega arith
 
 sub-place : tie.Need-sub-place Inv-loop μ-loop
 sub-place c = omega arith
@@ -41,15 +38,16 @@ loop-less c = omega arith
 
 loop-again : tie.Need-loop-again Inv-loop μ-loop
 loop-again c =
-    let a = c .before .before .before .before .before .before .before .before .before .args in
-    let l = c .before .before .before .before .before .loop in (
+    let a = c .before .before .before .before .before .before .before .args in
+    let l = c .before .before .before .loop in
+    let next : (l .place - 1) + 1 ≡ l .place = omega arith in (
       omega arith,
       omega arith,
-      rw (c .put-region .ensures, c .before .before .get-region .ensures, l .inv .2) (shift-step regionAt withRegion (Lent policySize) region-lent region-rewritten region-beside region-comm (a .n) (a .policy .now) (l .place) (omega arith) (omega arith)),
+      rw (c .copy-region .ensures, l .inv .2, next) (shift-step regionAt withRegion (Lent policySize) region-lent region-rewritten region-beside region-comm (a .n) (a .policy .now) (l .place) (omega arith) (omega arith)),
     )
 
-put-region-requires-2 : tie.Need-put-region-requires-2 Inv-loop μ-loop
-put-region-requires-2 c κs = omega arith
+put-region-requires : tie.Need-put-region-requires Inv-loop μ-loop
+put-region-requires c κs = omega arith
 
 returns : tie.Need-returns Inv-loop μ-loop
 returns c =
@@ -57,7 +55,7 @@ returns c =
     let l = c .before .before .before .loop in
     let e : l .place ≡ a .at = omega arith in
     let lent : Lent policySize (a .policy .now) = record { long = omega arith; bytes = c .before .before .before .before .are-bytes .ensures } in
-    rw (c .put-region2 .ensures, l .inv .2, e) (shift-done regionAt withRegion (Lent policySize) region-lent region-rewritten region-beside region-comm (a .n) (a .policy .now) 16 (a .at) (a .region) (omega arith) (omega arith) lent)
+    rw (c .put-region .ensures, l .inv .2, e) (shift-done regionAt withRegion (Lent policySize) region-lent region-rewritten region-beside region-comm (a .n) (a .policy .now) 16 (a .at) (a .region) (omega arith) (omega arith) lent)
 
 pub place-at-spec : {M : Type 1} → statement M
 place-at-spec =
@@ -67,11 +65,10 @@ place-at-spec =
     μ-loop
     are-bytes-requires
     loop-holds
-    sub-get-region
-    get-region-requires
-    put-region-requires
+    sub-copy-region
+    copy-region-requires
     sub-place
     loop-less
     loop-again
-    put-region-requires-2
+    put-region-requires
     returns)
