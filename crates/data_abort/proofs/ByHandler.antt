@@ -67,8 +67,8 @@ module _ (regions : List MemoryAccessRegion) (core : Core) (counter : ℕ) (trap
   kind = accessBy trap .kind
 
   -- the page faults, where Rt holds what the core has
-  abbrev pageFaults : MemoryAccessHandlerMatch → Type 0
-  pageFaults m = deviceFault kind (accessBy trap) (m .offset) (readValue (readGpr core (accessBy trap .«register_index»))) counter ≡ true
+  abbrev PageFaults : MemoryAccessHandlerMatch → Type 0
+  PageFaults m = deviceFault kind (accessBy trap) (m .offset) (readValue (readGpr core (accessBy trap .«register_index»))) counter ≡ true
 
   -- the region that has the address
   abbrev IsFound : RegionFound → Type 0
@@ -80,7 +80,7 @@ module _ (regions : List MemoryAccessRegion) (core : Core) (counter : ℕ) (trap
       (isv (iss (trap .esr)) ≡ false)
       ⊎ (IsFound Nothing)
       ⊎ ((m : MemoryAccessHandlerMatch) × IsFound (Match m) × (handlerFor kind m ≡ Fault))
-      ⊎ ((m : MemoryAccessHandlerMatch) × IsFound (Match m) × (handlerFor kind m ≡ FilteredMmio) × pageFaults m)
+      ⊎ ((m : MemoryAccessHandlerMatch) × IsFound (Match m) × (handlerFor kind m ≡ FilteredMmio) × PageFaults m)
 
   pub due-if : Due → injectionDue regions core counter trap ≡ true
   unfolding injectionDue
