@@ -360,6 +360,10 @@ uint64_t ritm_save(struct ritm_cores *cores, uint64_t core, const struct ritm_re
    must stop the guest or move it on. After a stage-2 permission fault HPFAR_EL2 need not be valid (Arm DDI 0601): a
    host whose attributes allow a range for reading or for writing alone finds the IPA itself (AT S1E1R, AT S1E1W).
 
+   A data abort is an access to a region if one has its address, and the region's handler for loads or for stores says
+   what comes of it (enum ritm_memory_handler). The guest gets the abort where no region has the address, where the
+   handler is RITM_HANDLER_FAULT or the filtered MMIO page has nothing there, and where ESR_EL2 has ISV clear.
+
    A call, by HVC or SMC, is forwarded by its function identifier (Arm DEN0028 from version 1.3 on): the low 32 bits of
    x0, of which bit 16 is cleared in a fast call, one with bit 31 set. PSCI's identifiers, 0x84000000 to 0x8400001F and
    0xC4000000 to 0xC400001F, go to the firmware, all others to the platform. The identifier is handed out in place of
