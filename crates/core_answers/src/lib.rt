@@ -1,4 +1,7 @@
 // What the calls on a core answer, with document 01's numbers: ours, since RITM has no refusals here.
+
+#![tactic(auto)]
+
 ghost use Rattle.std.specs.Prelude.{◌≡◌};
 ghost use Rattle.core_answers.specs.Answers.{core_error_number, core_number, trap_number, trap_kind, without_values, answered, refused_trap, refused_core};
 
@@ -6,7 +9,7 @@ use exceptions::{Core, Recipient};
 use memory_access::MemoryAccessKind;
 
 // Why a call on a core is refused.
-#[derive(Drop)]
+#[derive(Clone, Copy)]
 pub enum CoreError {
     NoSuchCore,
     CoreWaiting,
@@ -17,21 +20,21 @@ pub enum CoreError {
 }
 
 // What a save or a reply answers.
-#[derive(Drop)]
+#[derive(Clone, Copy)]
 pub enum CoreAnswer {
     Accepted,
     Refused(CoreError),
 }
 
 // What one core's save or reply comes to, and the core then.
-#[derive(Drop)]
+#[derive(Clone, Copy)]
 pub struct CoreStep {
     pub answer: CoreAnswer,
     pub core: Core,
 }
 
 // What a trap answers.
-#[derive(Drop)]
+#[derive(Clone, Copy)]
 pub enum TrapAnswer {
     // The load or the store is done.
     AccessHandled(MemoryAccessKind),
@@ -45,7 +48,7 @@ pub enum TrapAnswer {
 pub const FORWARDED_VALUES: usize = 18;
 
 // What a trap gives its host: the answer, and the values and the SVE hint of a forwarded call, zeros in every other answer.
-#[derive(Drop)]
+#[derive(Clone, Copy)]
 pub struct TrapResult {
     pub answer: TrapAnswer,
     pub values: [u64; FORWARDED_VALUES],
@@ -54,7 +57,7 @@ pub struct TrapResult {
 }
 
 // What one core's trap gives, and the core and the counter then.
-#[derive(Drop)]
+#[derive(Clone, Copy)]
 pub struct TrapStep {
     pub result: TrapResult,
     pub core: Core,

@@ -1,4 +1,7 @@
 // RITM's src/hypervisor.rs, its data aborts: the access is handled, or the guest gets the abort.
+
+#![tactic(auto)]
+
 ghost use Rattle.std.specs.Prelude.{◌≡◌};
 ghost use Rattle.lists.specs.Lists.{held};
 ghost use Rattle.memory_access.specs.declared.MemoryAccessKind.TheVariants.{Read, Write};
@@ -15,7 +18,7 @@ use stage2_range::{
 };
 
 // What the hardware says of a trap: ESR_EL2, the FIPA of HPFAR_EL2, FAR_EL2, and the guest's VBAR_EL1.
-#[derive(Drop)]
+#[derive(Clone, Copy)]
 pub struct TrapRegisters {
     pub esr: u64,
     pub fipa: Fipa,
@@ -24,7 +27,7 @@ pub struct TrapRegisters {
 }
 
 // What comes of the access that a data abort describes.
-#[derive(Drop)]
+#[derive(Clone, Copy)]
 pub enum AccessOutcome {
     // A load: its register, what that takes, and the counter then.
     Loaded(usize, u64, u64),
@@ -190,7 +193,7 @@ fn write_through(
 }
 
 // What an injected abort puts into a core: where the guest goes on, and its EL1 registers.
-#[derive(Drop)]
+#[derive(Clone, Copy)]
 pub struct Injection {
     pub elr: u64,
     pub spsr: u64,

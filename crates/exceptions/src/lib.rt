@@ -1,30 +1,33 @@
 // RITM's src/exceptions.rs: the guest registers that a trap saved, as one record by value.
+
+#![tactic(auto)]
+
 ghost use Rattle.std.specs.Prelude.{◌≡◌};
 ghost use Rattle.exceptions.specs.Registers.{fresh_core, next_instruction, advance_pc, read_gpr, read_number, read_value, write_gpr, write_number};
 
 // How a call left the guest: the SMCCC's conduit.
-#[derive(Drop)]
+#[derive(Clone, Copy)]
 pub enum Conduit {
     Hvc,
     Smc,
 }
 
 // Who is to answer a forwarded call (document 01: a hand-out).
-#[derive(Drop)]
+#[derive(Clone, Copy)]
 pub enum Recipient {
     Firmware,
     Platform,
 }
 
 // What a core waits for.
-#[derive(Drop)]
+#[derive(Clone, Copy)]
 pub enum Wait {
     Nothing,
     Call(Conduit, Recipient),
 }
 
 // The EL1 registers that an injected abort writes.
-#[derive(Drop)]
+#[derive(Clone, Copy)]
 pub struct FaultRegisters {
     pub elr: u64,
     pub spsr: u64,
@@ -33,7 +36,7 @@ pub struct FaultRegisters {
 }
 
 // A core's saved registers: x0 to x30, of which x29 is the frame pointer and x30 the link register (RITM's field `sp`), ELR and SPSR.
-#[derive(Drop)]
+#[derive(Clone, Copy)]
 pub struct Core {
     pub x: [u64; 31],
     pub elr: u64,
@@ -43,21 +46,21 @@ pub struct Core {
 }
 
 // What `read_gpr` answers.
-#[derive(Drop)]
+#[derive(Clone, Copy)]
 pub enum GprRead {
     Value(u64),
     NoSuchRegister,
 }
 
 // What `write_gpr` answers.
-#[derive(Drop)]
+#[derive(Clone, Copy)]
 pub enum GprWrite {
     Accepted,
     GuestRegisterWriteError,
 }
 
 // The answer, and the core then.
-#[derive(Drop)]
+#[derive(Clone, Copy)]
 pub struct GprWritten {
     pub answer: GprWrite,
     pub core: Core,

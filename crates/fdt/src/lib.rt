@@ -1,5 +1,8 @@
 // The memory of a flattened devicetree (Devicetree Specification, chapter 5, header version 17), in two passes over the structure block:
 // `read_memory` judges it with a small state; `next_pair` then hands out one pair of an address and a size at a time.
+
+#![tactic(auto)]
+
 ghost use Rattle.std.specs.Prelude.{◌≡◌, ◌+◌, ◌-◌, ◌/◌, ◌^◌, ◌<◌, ◌≤◌, false, [], ◌∷◌, ◌++◌, length, drop, if◌then◌else◌};
 ghost use Rattle.fdt.specs.Passes.{lex_at, judged_block, cells_at, reg_pairs, pair_of, pairs_from, left_in, handed};
 ghost use Rattle.fdt.specs.Blob.{zero_entry, list_ends, header_ok, memory_by, blob_memory, memory_of, block_of, strings_of, inside_of, Inside, pairs_left};

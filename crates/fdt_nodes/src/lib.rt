@@ -1,4 +1,7 @@
 // The nodes of a flattened devicetree, one token at a time, with a small state.
+
+#![tactic(auto)]
+
 ghost use Rattle.std.specs.Prelude.{◌≡◌};
 ghost use Rattle.fdt_tokens.specs.Devicetree.{one_or_two};
 ghost use Rattle.fdt_nodes.specs.Nodes.{first_kept, absent, first_named, cell_at, bad_nodes, is_memory, width, pair_bytes, ragged_reg, begin_node, child_end, end_node, root_property, child_property, flag, property, ended, advance};

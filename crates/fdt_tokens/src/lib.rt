@@ -1,4 +1,7 @@
 // The bytes of a flattened devicetree's structure block: big-endian words, names and tokens.
+
+#![tactic(auto)]
+
 ghost use Rattle.std.specs.Prelude.{◌≡◌, drop};
 ghost use Rattle.fdt_tokens.specs.Devicetree.{joined, has_zero};
 ghost use Rattle.fdt_tokens.specs.Bytes.{be32_at, starts_with};

@@ -1,4 +1,7 @@
 // RITM's src/hypervisor.rs, its HVC and SMC calls: each is handed out to its recipient, whose reply the core then takes.
+
+#![tactic(auto)]
+
 ghost use Rattle.std.specs.Prelude.{◌≡◌, ◌≤◌};
 ghost use Rattle.forwarded_call.specs.ForwardedCall.{is_fast_call, function_id_of, sve_hint_of, recipient_of, guest_call, registers_for, first_registers, with_wait, forward_call, may_reply, taken_by, decide_reply, resumed_elr, resumed, reply_core};
 
@@ -7,7 +10,7 @@ use exceptions::{Conduit, Core, Recipient, Wait};
 use hvc_response::{HvcResult, HvcResultKind, REPLY_VALUES};
 
 // What x0 says of a guest's call, by DEN0028 from version 1.3 on.
-#[derive(Drop)]
+#[derive(Clone, Copy)]
 pub struct GuestCall {
     // Document 02's function number.
     pub function_id: u64,
@@ -17,14 +20,14 @@ pub struct GuestCall {
 }
 
 // A guest's call that is its recipient's to answer (document 01: a hand-out), and the core then.
-#[derive(Drop)]
+#[derive(Clone, Copy)]
 pub struct ForwardedCall {
     pub result: TrapResult,
     pub core: Core,
 }
 
 // The host's answer to a forwarded call: its kind, the values that the kind uses from the first on, and the error.
-#[derive(Drop)]
+#[derive(Clone, Copy)]
 pub struct HvcReply {
     pub kind: u64,
     pub values: [u64; REPLY_VALUES],
@@ -32,7 +35,7 @@ pub struct HvcReply {
 }
 
 // What becomes of a reply: the core takes a result and goes on from a call by a conduit, or the reply is refused.
-#[derive(Drop)]
+#[derive(Clone, Copy)]
 pub enum ReplyDecision {
     Taken(HvcResult, Conduit),
     Refused(CoreError),

@@ -1,4 +1,7 @@
 // RITM's src/hvc_response.rs: what a call's result does to the saved registers.
+
+#![tactic(auto)]
+
 ghost use Rattle.std.specs.Prelude.{◌≡◌, ◌∷◌, ◌≤◌, take, replicate};
 ghost use Rattle.hvc_response.specs.Response.{signed_word, with_first, response, result_of_kind, result_kind_number};
 
@@ -10,7 +13,7 @@ pub const REPLY_VALUES: usize = 18;
 
 // The result of a forwarded call (document 01: a reply): RITM's `HvcResult` and `HvcResponse` in one. The four or eighteen values of a
 // success stand beside it.
-#[derive(Drop)]
+#[derive(Clone, Copy)]
 pub enum HvcResult {
     Unhandled,
     Value(u64),
@@ -20,7 +23,7 @@ pub enum HvcResult {
 }
 
 // What `from_kind` answers.
-#[derive(Drop)]
+#[derive(Clone, Copy)]
 pub enum HvcResultKind {
     Result(HvcResult),
     Refused(CoreError),

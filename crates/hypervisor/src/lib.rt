@@ -1,4 +1,7 @@
 // RITM's src/hypervisor.rs: what a guest's trap does to its core, and the host's calls over the eight cores.
+
+#![tactic(auto)]
+
 ghost use Rattle.std.specs.Prelude.{◌≡◌, ◌<◌};
 ghost use Rattle.lists.specs.Lists.{held};
 ghost use Rattle.hypervisor.specs.Trap.{exception_class, forwarded, by_class, handle_sync_lower};
@@ -12,7 +15,7 @@ use stage2::Policy;
 use stage2_range::MemoryAccessRegion;
 
 // What `trap` gives, and the state then.
-#[derive(Drop)]
+#[derive(Clone, Copy)]
 pub struct Trapped {
     pub result: TrapResult,
     pub policy: Policy,
@@ -21,7 +24,7 @@ pub struct Trapped {
 }
 
 // What `save` and `reply` answer, and the cores then.
-#[derive(Drop)]
+#[derive(Clone, Copy)]
 pub struct CoresStep {
     pub answer: CoreAnswer,
     pub cores: [Core; 8],
@@ -75,7 +78,7 @@ const ESR_EC_SHIFT: u64 = 26;
 const ESR_EC_MASK: u64 = 0x3F;
 
 // The class of an exception.
-#[derive(Drop)]
+#[derive(Clone, Copy)]
 pub enum ExceptionClass {
     HvcTrappedInAArch64,
     SmcTrappedInAArch64,

@@ -1,5 +1,8 @@
 // One core of the bytes that a host lends, in place: the words that a step asks for are read and stored, and no others. A core above 7 reads as a fresh
 // one and takes no store.
+
+#![tactic(auto)]
+
 ghost use Rattle.std.specs.Prelude.{◌≡◌, [], ◌<◌, get_or};
 ghost use Rattle.core_answers.specs.Answers.{forwarded_length, result_words};
 ghost use Rattle.lent_words.specs.Words.{bytes_of, Leaves};

@@ -1,5 +1,8 @@
 // Where the bytes that a host lends hold the cores, the counter, and what goes into a core's calls and comes out: little-endian 64-bit words at fixed
 // places. Any bytes are eight cores.
+
+#![tactic(auto)]
+
 ghost use Rattle.std.specs.Prelude.{◌≡◌, ◌+◌, ◌≤◌, ◌<◌};
 ghost use Rattle.core_answers.specs.Answers.{result_words};
 ghost use Rattle.lent_words.specs.Words.{word_at, words_at, with_word, with_words, store_each, bytes_of};

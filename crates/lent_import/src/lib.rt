@@ -1,4 +1,7 @@
 // Memory read from a board's devicetree into a policy in the bytes that a host lends.
+
+#![tactic(auto)]
+
 ghost use Rattle.std.specs.Prelude.{◌≡◌, []};
 ghost use Rattle.fdt.specs.Blob.{pairs_left};
 ghost use Rattle.lent_words.specs.Words.{Leaves};

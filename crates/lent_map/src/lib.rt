@@ -1,5 +1,8 @@
 // Where the bytes that a host lends hold the suspend map: little-endian 64-bit words at fixed places. Any bytes are a map. A call reads and
 // stores the words that it must, in place.
+
+#![tactic(auto)]
+
 ghost use Rattle.std.specs.Prelude.{◌≡◌, cond, [], ◌+◌, ◌*◌, ◌<◌, ltb};
 ghost use Rattle.lists.specs.Lists.{first_index};
 ghost use Rattle.lent_words.specs.Words.{word_at, bytes_of, unless_refused, Leaves};

@@ -1,4 +1,7 @@
 // Where the bytes that a host lends hold the policy: little-endian 64-bit words at fixed places. Any bytes are a policy.
+
+#![tactic(auto)]
+
 ghost use Rattle.std.specs.Prelude.{◌≡◌, [], ◌+◌, ◌≤◌, ◌<◌, min, leb, set};
 ghost use Rattle.lists.specs.Lists.{first_index, insert_at};
 ghost use Rattle.lent_words.specs.Words.{word_at, each, store_each, Leaves};

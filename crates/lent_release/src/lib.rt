@@ -1,4 +1,7 @@
 // Release of a range on a policy in lent bytes. (RITM has no such call.)
+
+#![tactic(auto)]
+
 ghost use Rattle.std.specs.Prelude.{◌≡◌, [], ◌+◌, ◌-◌, ◌≤◌, ◌<◌};
 ghost use Rattle.lists.specs.Lists.{first_index, remove_at};
 ghost use Rattle.stage2_range.specs.Ranges.{is_range};

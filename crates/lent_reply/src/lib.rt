@@ -1,5 +1,8 @@
 // A reply to a forwarded call on the bytes that a host lends, in place: it stores the registers that the reply writes, ELR and the wait, and makes the
 // decisions of `forwarded_call` and `hvc_response`.
+
+#![tactic(auto)]
+
 ghost use Rattle.std.specs.Prelude.{◌≡◌, [], ◌+◌, ◌<◌, ◌≤◌, take};
 ghost use Rattle.lent_words.specs.Words.{words_at, with_word, with_words, store_each, Leaves};
 ghost use Rattle.lent_cores.specs.Layout.{held_core, with_core};

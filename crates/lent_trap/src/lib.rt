@@ -1,5 +1,8 @@
 // A core's trap on the bytes that a host lends, in place: it reads and stores the words that the trap asks for, and makes the decisions of `hypervisor`
 // and the crates below it.
+
+#![tactic(auto)]
+
 ghost use Rattle.std.specs.Prelude.{◌≡◌, cond, ◌<◌, eqb};
 ghost use Rattle.lent_words.specs.Words.{bytes_of, Leaves};
 ghost use Rattle.lent_policy.specs.Layout.{policy_at};

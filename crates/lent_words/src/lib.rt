@@ -1,4 +1,7 @@
 // Little-endian 64-bit words in bytes that a host lends, numbered from 0. A word that the bytes end before reads 0 and takes no write.
+
+#![tactic(auto)]
+
 ghost use Rattle.std.specs.Prelude.{◌≡◌, [], ◌∷◌, ◌+◌, ◌≤◌, length, take, drop};
 ghost use Rattle.std.proofs.lemmas.List.Edits.{sets};
 ghost use Rattle.lent_words.specs.Words.{of_bytes, to_bytes, word_at, with_word, bytes_of, read_code, kept_code, Bytes};

@@ -1,4 +1,7 @@
 // RITM's memory_access/src/lib.rs: the guest memory access that a data abort's syndrome describes.
+
+#![tactic(auto)]
+
 ghost use Rattle.std.specs.Prelude.{◌≡◌, ◌-◌, ◌^◌};
 ghost use Rattle.memory_access.specs.Syndrome.{isv, sas, sse, srt, sf, wnr, kind_of, width_of, bits_of, fault_ipa, decode_access, kind_number, flag_number, number_of, values_of};
 ghost use Rattle.memory_access.specs.declared.Decoded.TheVariants.{Access};
@@ -6,15 +9,15 @@ ghost use Rattle.bits.specs.Bits.{low_bits};
 ghost use Rattle.memory_access.specs.Transfer.{sign_extension, loaded, at_register_width, extend_read_result, store_value};
 
 // The faulting page number, as HPFAR_EL2 reports it: it counts pages.
-#[derive(Drop)]
+#[derive(Clone, Copy)]
 pub struct Fipa(pub u64);
 
 // An intermediate physical address: it counts bytes.
-#[derive(Drop)]
+#[derive(Clone, Copy)]
 pub struct Ipa(pub u64);
 
 // Width of a trapped guest memory access.
-#[derive(Drop)]
+#[derive(Clone, Copy)]
 pub enum MemoryAccessWidth {
     U8,
     U16,
@@ -49,14 +52,14 @@ impl MemoryAccessWidth {
 }
 
 // Direction of a trapped memory access.
-#[derive(Drop)]
+#[derive(Clone, Copy)]
 pub enum MemoryAccessKind {
     Read,
     Write,
 }
 
 // A guest memory access, by what the syndrome says of it. A write names its register, and whoever holds the registers reads it.
-#[derive(Drop)]
+#[derive(Clone, Copy)]
 pub struct MemoryAccess {
     pub ipa: Ipa,
     pub width: MemoryAccessWidth,
@@ -67,7 +70,7 @@ pub struct MemoryAccess {
 }
 
 // What `decode` answers: the access, or that the syndrome holds no access.
-#[derive(Drop)]
+#[derive(Clone, Copy)]
 pub enum Decoded {
     Access(MemoryAccess),
     NoSyndrome,

@@ -1,4 +1,7 @@
 // Memory read from a board's flattened devicetree: every pair of its memory nodes is allowed, or the policy is as before.
+
+#![tactic(auto)]
+
 ghost use Rattle.std.specs.Prelude.{◌≡◌};
 ghost use Rattle.fdt.specs.Blob.{pairs_left};
 ghost use Rattle.stage2.specs.Policy.{built_by};

@@ -1,4 +1,7 @@
 // Replays answers of RITM's Rust, read from standard input, through the library, and says how many agree and the first that does not.
+
+#![tactic(auto)]
+
 mod state;
 
 use libc::{STDIN_FILENO, STDOUT_FILENO};

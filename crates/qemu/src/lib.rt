@@ -1,4 +1,7 @@
 // RITM's src/platform/qemu.rs, of which the filtered MMIO page (document 01: the filtered page) is carried over.
+
+#![tactic(auto)]
+
 ghost use Rattle.std.specs.Prelude.{◌≡◌, ◌==◌};
 ghost use Rattle.qemu.specs.FilteredMmio.{page_word, counter_after, read_filtered_mmio, write_filtered_mmio};
 
@@ -6,7 +9,7 @@ use memory_access::MemoryAccessWidth;
 use stage2_range::{MemoryReadAccess, MemoryReadResult, MemoryWriteAccess, MemoryWriteResult};
 
 // What a load gives, and the counter then.
-#[derive(Drop)]
+#[derive(Clone, Copy)]
 pub struct FilteredRead {
     pub result: MemoryReadResult,
     pub counter: u64,

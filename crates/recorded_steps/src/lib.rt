@@ -1,5 +1,8 @@
 // The calls that records name on the cores: 4 to 7 and 16, and their state, f, 10 and 14. Each is made as the record says, and the words
 // of its answer are compared with those recorded. The codes are those of the table of formats in crates/oracle_answers.
+
+#![tactic(auto)]
+
 ghost use Rattle.std.specs.Prelude.{◌≡◌, ◌^◌, ◌<◌};
 ghost use Rattle.memory_access.specs.Transfer.{twos_complement};
 ghost use Rattle.exceptions.specs.Registers.{write_gpr, fresh_core};

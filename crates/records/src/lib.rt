@@ -1,5 +1,8 @@
 // Records as text: a line of lower-case hexadecimal numbers of at most 64 bits, one space between two of them. The first is the record's
 // code, then come a call's arguments, then its answer. A line is read byte by byte, so that a text may be longer than any buffer.
+
+#![tactic(auto)]
+
 ghost use Rattle.std.specs.Prelude.{◌≡◌, ◌<◌, length, take, drop};
 ghost use mathlib.Core.List.{foldl};
 ghost use Rattle.records.specs.Lines.{digit_of, empty_line, malformed, with_space, with_digit, with_byte};

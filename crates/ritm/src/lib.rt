@@ -1,5 +1,8 @@
 // What an EL2 host in C or Rust calls: plain numbers, and bytes that it lends. A call returns 0 or the number of its refusal; a refusal leaves
 // the state's bytes as they were, and a result is written whole on every call, zeros where there is nothing.
+
+#![tactic(auto)]
+
 ghost use Rattle.std.specs.Prelude.{◌≡◌, [], replicate};
 ghost use Rattle.hypervisor.specs.Cores.{fresh_cores};
 ghost use Rattle.lent_policy.specs.Layout.{policy_at, policy_size};

@@ -1,63 +1,66 @@
 // RITM's src/simple_map.rs at the one type that RITM uses it with, the suspend contexts of src/hypervisor.rs: a map in a fixed-capacity
 // array, searched from its start.
+
+#![tactic(auto)]
+
 ghost use Rattle.std.specs.Prelude.{◌≡◌, cond, ltb, get_or, set};
 ghost use Rattle.lists.specs.Lists.{first_index};
 ghost use Rattle.simple_map.specs.Map.{free_place, value_of, without, empty_map, get_item, insert_item, insert_number, remove_item};
 ghost use Rattle.simple_map.specs.Search.{place_fits};
 
 // Where a suspended core resumes, and with what.
-#[derive(Drop)]
+#[derive(Clone, Copy)]
 pub struct SuspendCoreData {
     pub entry_point: u64,
     pub context_id: u64,
 }
 
 // Document 01: a parked entry.
-#[derive(Drop)]
+#[derive(Clone, Copy)]
 pub struct Item {
     pub key: u64,
     pub value: SuspendCoreData,
 }
 
 // RITM's `Option<Item>`.
-#[derive(Drop)]
+#[derive(Clone, Copy)]
 pub enum OptionItem {
     None,
     Some(Item),
 }
 
-#[derive(Drop)]
+#[derive(Clone, Copy)]
 pub struct Place {
     pub item: OptionItem,
 }
 
 // RITM's `SimpleMap<MpidrEl1, SuspendCoreData, MAX_CORES>`.
-#[derive(Drop)]
+#[derive(Clone, Copy)]
 pub struct SimpleMap {
     pub items: [Place; 8],
 }
 
 // What a look-up finds.
-#[derive(Drop)]
+#[derive(Clone, Copy)]
 pub enum Lookup {
     Nothing,
     Value(SuspendCoreData),
 }
 
-#[derive(Drop)]
+#[derive(Clone, Copy)]
 pub struct Removed {
     pub removed: Lookup,
     pub map: SimpleMap,
 }
 
 // What `insert` answers.
-#[derive(Drop)]
+#[derive(Clone, Copy)]
 pub enum Insertion {
     Accepted,
     CapacityExceeded,
 }
 
-#[derive(Drop)]
+#[derive(Clone, Copy)]
 pub struct Inserted {
     pub answer: Insertion,
     pub map: SimpleMap,
@@ -142,7 +145,7 @@ fn free_place() -> Place
 }
 
 // What a search of the map looks for.
-#[derive(Drop)]
+#[derive(Clone, Copy)]
 enum Sought {
     Free,
     Key(u64),

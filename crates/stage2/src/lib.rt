@@ -1,4 +1,7 @@
 // RITM's src/stage2.rs, the builder: which ranges the guest may use directly, and which have their accesses handled.
+
+#![tactic(auto)]
+
 ghost use Rattle.std.specs.Prelude.{◌≡◌, [], ◌∷◌, ◌≤◌, ◌<◌};
 ghost use Rattle.lists.specs.Lists.{remove_at};
 ghost use Rattle.stage2_range.specs.declared.Stage2Result.TheVariants.{Refused};
@@ -13,7 +16,7 @@ use stage2_range::{
 };
 
 // RITM's `Stage2Builder` without its page table: the allowed ranges in order of arrival, the handled regions ascending by base.
-#[derive(Drop)]
+#[derive(Clone, Copy)]
 pub struct Policy {
     pub allowed: [Stage2Range; 32],
     pub allowed_count: u64,
@@ -22,7 +25,7 @@ pub struct Policy {
 }
 
 // What a builder call answers, and the policy then.
-#[derive(Drop)]
+#[derive(Clone, Copy)]
 pub struct Built {
     pub answer: Stage2Result,
     pub policy: Policy,

@@ -1,4 +1,7 @@
 // RITM's src/stage2.rs below its builder: the records, the range checks, the searches over an array and a count, the registry's insertion.
+
+#![tactic(auto)]
+
 ghost use Rattle.std.specs.Prelude.{◌≡◌, ◌≤◌, ◌<◌};
 ghost use Rattle.lists.specs.Lists.{held, first_index, insert_at};
 ghost use Rattle.stage2_range.specs.Ranges.{validate_range, error_number, result_number, page_range, has_byte, shares_byte, range_of, range_bytes, range_words, is_range, overlaps_allowed, align_down, align_up, aligned_number, aligned_value};
@@ -16,7 +19,7 @@ pub const MAX_ALLOWED_RANGES: u64 = 32;
 
 // Why a call that changes the policy is refused. (The last four are ours: handlers are named by numbers, where RITM has functions,
 // memory is read from a devicetree, and a range can be released.)
-#[derive(Drop)]
+#[derive(Clone, Copy)]
 pub enum Stage2ConfigError {
     RangeBaseNotPageAligned,
     EmptyRange,
@@ -34,14 +37,14 @@ pub enum Stage2ConfigError {
 }
 
 // RITM's `Result<(), Stage2ConfigError>`.
-#[derive(Drop)]
+#[derive(Clone, Copy)]
 pub enum Stage2Result {
     Accepted,
     Refused(Stage2ConfigError),
 }
 
 // Who serves the loads or the stores of a region (document 01: a half), where RITM has an optional function.
-#[derive(Drop)]
+#[derive(Clone, Copy)]
 pub enum MemoryHandler {
     // Nobody, quietly: a load gives 0 and a store is dropped.
     Absent,
@@ -57,14 +60,14 @@ pub const MEMORY_HANDLERS: u64 = 3;
 // The number of the fault, which larger ones name too.
 pub const FAULT_HANDLER: u64 = 2;
 
-#[derive(Drop)]
+#[derive(Clone, Copy)]
 pub struct MemoryAccessHandler {
     pub read: MemoryHandler,
     pub write: MemoryHandler,
 }
 
 // A guest load from a handled region.
-#[derive(Drop)]
+#[derive(Clone, Copy)]
 pub struct MemoryReadAccess {
     pub ipa: Ipa,
     pub offset: u64,
@@ -72,7 +75,7 @@ pub struct MemoryReadAccess {
 }
 
 // A guest store to a handled region, its value at the access width.
-#[derive(Drop)]
+#[derive(Clone, Copy)]
 pub struct MemoryWriteAccess {
     pub ipa: Ipa,
     pub offset: u64,
@@ -80,27 +83,27 @@ pub struct MemoryWriteAccess {
     pub value: u64,
 }
 
-#[derive(Drop)]
+#[derive(Clone, Copy)]
 pub enum MemoryReadResult {
     Value(u64),
     Fault,
 }
 
-#[derive(Drop)]
+#[derive(Clone, Copy)]
 pub enum MemoryWriteResult {
     Handled,
     Fault,
 }
 
 // The bytes of a range or of a region: from its base up to but not including its end.
-#[derive(Drop)]
+#[derive(Clone, Copy)]
 pub struct PageRange {
     pub base_ipa: u64,
     pub end_ipa: u64,
 }
 
 // A range that the guest may use directly (document 01: an allowed range). (RITM's record has no attributes: they go to the page table alone.)
-#[derive(Drop)]
+#[derive(Clone, Copy)]
 pub struct Stage2Range {
     pub base_ipa: u64,
     pub size: u64,
@@ -109,7 +112,7 @@ pub struct Stage2Range {
 }
 
 // A range whose accesses are handled (document 01: a region).
-#[derive(Drop)]
+#[derive(Clone, Copy)]
 pub struct MemoryAccessRegion {
     pub base_ipa: u64,
     pub size: u64,
@@ -118,21 +121,21 @@ pub struct MemoryAccessRegion {
 }
 
 // A region that has an address, and the offset of the address in it.
-#[derive(Drop)]
+#[derive(Clone, Copy)]
 pub struct MemoryAccessHandlerMatch {
     pub region: MemoryAccessRegion,
     pub offset: u64,
 }
 
 // What `find_region` answers.
-#[derive(Drop)]
+#[derive(Clone, Copy)]
 pub enum RegionFound {
     Nothing,
     Match(MemoryAccessHandlerMatch),
 }
 
 // What `register` answers, and the registry then.
-#[derive(Drop)]
+#[derive(Clone, Copy)]
 pub struct Registered {
     pub answer: Stage2Result,
     pub regions: [MemoryAccessRegion; 16],
@@ -140,7 +143,7 @@ pub struct Registered {
 }
 
 // What `align_up_to_page` answers.
-#[derive(Drop)]
+#[derive(Clone, Copy)]
 pub enum AlignedUp {
     Address(u64),
     NoPageAbove,
@@ -437,7 +440,7 @@ pub fn allowed_position(
 }
 
 // What a search of the regions looks for.
-#[derive(Drop)]
+#[derive(Clone, Copy)]
 enum Sought {
     // A byte in common with these.
     Overlap(PageRange),

@@ -1,5 +1,8 @@
 // Worked values in tables: a row is a line with the numbers that are given to the library and, after a bar, what it answers. The file
 // `stdout` has what the lines must be. Rows after a comment "Bench" are of document 01's bench table.
+
+#![tactic(auto)]
+
 mod accesses;
 mod maps;
 mod page;

@@ -1,6 +1,9 @@
 // Worked values of an import, of the blob on standard input, which dtc made of tests/devicetree/board.dts: the answer's number, how many
 // ranges are then allowed, and the first three of them, each with its base, size, end and attribute word. `fdt_tree` computes the same pairs
 // from the devicetree's definitions.
+
+#![tactic(auto)]
+
 use io::{print_decimal, read_full, write_all};
 use libc::{STDIN_FILENO, STDOUT_FILENO};
 use memory_import::import_memory;

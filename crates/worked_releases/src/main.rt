@@ -1,5 +1,8 @@
 // Worked values of a release, on policies that no builder makes, where its rule shows. A row is the answer's number, both counts then, the
 // attribute words of the first three allowed ranges, and the numbers of the first three regions' read handlers.
+
+#![tactic(auto)]
+
 use io::{print_decimal, write_all};
 use libc::STDOUT_FILENO;
 use stage2::{Built, Policy};
