@@ -15,6 +15,7 @@ fn join(a: u8, b: u8, c: u8, d: u8) -> u32
 }
 
 // The big-endian word at `at`; 0 where the slice ends before it does.
+#[tactic(auto, unfolding(crate::specs::Bytes::be32_at))]
 pub fn be32(s: &[u8], at: usize) -> u32
     ensures { result ≡ be32_at s.now at }
 {
@@ -90,6 +91,7 @@ pub struct Lexed {
 }
 
 // Four bytes of a name with its zero byte and its padding.
+#[tactic(auto, unfolding(crate::specs::Lex::name_word))]
 fn name_word(a: u8, b: u8, c: u8, d: u8) -> Lexer
     ensures { result ≡ name_word a b c d }
 {
@@ -123,6 +125,7 @@ fn name_word(a: u8, b: u8, c: u8, d: u8) -> Lexer
 }
 
 // Four bytes of a value of which `left` bytes are left, with its padding.
+#[tactic(auto, unfolding(crate::specs::Lex::value_word))]
 fn value_word(left: u32, b: u8, c: u8, d: u8) -> Lexer
     ensures { result ≡ value_word left b c d }
 {
@@ -150,6 +153,7 @@ fn value_word(left: u32, b: u8, c: u8, d: u8) -> Lexer
     Lexer::Token
 }
 
+#[tactic(auto, unfolding(crate::specs::Lex::token_word))]
 fn token_word(word: u32) -> Lexed
     ensures { result ≡ token_word word }
 {
@@ -182,6 +186,7 @@ fn token_word(word: u32) -> Lexed
 }
 
 // The next four bytes of the structure block.
+#[tactic(auto, unfolding(crate::specs::Lex::lex_word))]
 pub fn lex_word(lexer: Lexer, a: u8, b: u8, c: u8, d: u8) -> Lexed
     ensures { result ≡ lex_word lexer a b c d }
 {
@@ -224,6 +229,7 @@ pub fn lex_word(lexer: Lexer, a: u8, b: u8, c: u8, d: u8) -> Lexed
 }
 
 // Whether four bytes complete a token.
+#[tactic(auto, unfolding(crate::specs::Lex::is_token))]
 pub fn is_token(event: Event) -> bool
     ensures { result ≡ is_token event }
 {
@@ -237,6 +243,7 @@ pub fn is_token(event: Event) -> bool
 }
 
 // Whether FDT_END was read, and nothing after it.
+#[tactic(auto, unfolding(crate::specs::Lex::is_done))]
 pub fn is_done(lexer: Lexer) -> bool
     ensures { result ≡ is_done lexer }
 {
