@@ -13,7 +13,7 @@ pub const MAX_FIELDS: usize = 39;
 
 // A line as far as it is read: its numbers, zeros after them, the place of the one that is read, from 0 on, and whether that has a digit.
 // A line that is no list of numbers is at the place past the last.
-#[derive(Drop)]
+#[derive(Clone, Copy)]
 pub struct Line {
     pub fields: [u64; MAX_FIELDS],
     pub place: usize,
@@ -21,7 +21,7 @@ pub struct Line {
 }
 
 // The first field that is not as it was recorded, by its number in the line, from 1 on; 0 where there is none.
-#[derive(Drop)]
+#[derive(Clone, Copy)]
 pub struct Difference {
     pub field: u64,
     pub found: u64,
@@ -29,7 +29,7 @@ pub struct Difference {
 }
 
 // A line's fields and how many they are, the place of the answer's word that is compared next, and the first difference so far.
-#[derive(Drop)]
+#[derive(Clone, Copy)]
 pub struct Record {
     pub fields: [u64; MAX_FIELDS],
     pub count: usize,
@@ -38,7 +38,7 @@ pub struct Record {
 }
 
 // A record's code and the five fields after it: its call's arguments, as far as it has them.
-#[derive(Drop)]
+#[derive(Clone, Copy)]
 pub struct Call {
     pub code: u64,
     pub a: u64,
@@ -49,7 +49,7 @@ pub struct Call {
 }
 
 // What comes of a record.
-#[derive(Drop)]
+#[derive(Clone, Copy)]
 pub enum Outcome {
     Agrees,
     Differs(Difference),
@@ -69,6 +69,7 @@ impl Line {
     }
 
     // The line with one byte more.
+    #[tactic(auto, unfolding(crate::specs::Lines::with_byte))]
     pub fn with_byte(self, byte: u8) -> Self
         ensures { result ≡ with_byte self byte }
     {
@@ -82,6 +83,7 @@ impl Line {
     }
 
     // The record that the line holds, with nothing compared.
+    #[tactic(auto, unfolding(crate::specs::Records::record_of))]
     pub fn record(self) -> Record
         ensures { result ≡ record_of self }
     {
@@ -112,6 +114,7 @@ fn no_numbers(line: Line) -> Line
 }
 
 // The next number begins, unless the one before has no digit.
+#[tactic(auto, unfolding(crate::specs::Lines::with_space))]
 fn with_space(line: Line) -> Line
     requires { line.place < 39 }
     ensures { result ≡ with_space line }
@@ -128,6 +131,7 @@ fn with_space(line: Line) -> Line
 }
 
 // The value of a digit, and 16 for any other byte.
+#[tactic(auto, unfolding(crate::specs::Lines::digit_of))]
 fn digit(byte: u8) -> u64
     ensures { result ≡ digit_of byte }
 {
@@ -139,6 +143,7 @@ fn digit(byte: u8) -> u64
 }
 
 // The number that is read has one digit more, if that is a number of 64 bits.
+#[tactic(auto, unfolding(crate::specs::Lines::with_digit))]
 fn with_digit(line: Line, digit: u64) -> Line
     requires { line.place < 39 }
     ensures { result ≡ with_digit line digit }
@@ -161,6 +166,7 @@ fn with_digit(line: Line, digit: u64) -> Line
 }
 
 // How many numbers the line has: none where it is no list of numbers.
+#[tactic(auto, unfolding(crate::specs::Records::field_count))]
 fn field_count(line: Line) -> usize
     ensures { result ≡ field_count line }
 {
@@ -174,6 +180,7 @@ fn field_count(line: Line) -> usize
 }
 
 // The place of the first word of the answer in the record with a code, from 0 on; past the last field where no record has the code.
+#[tactic(auto, unfolding(crate::specs::Records::answer_place))]
 fn answer_place(code: u64) -> usize
     ensures { result ≡ answer_place code }
 {
@@ -203,6 +210,7 @@ impl Record {
     }
 
     // The record with the next word of its answer compared.
+    #[tactic(auto, unfolding(crate::specs::Records::expected))]
     pub fn expect(self, word: u64) -> Self
         ensures { result ≡ expected self word }
     {
@@ -263,6 +271,7 @@ impl Record {
     }
 
     // What came of the record, when its answer is compared.
+    #[tactic(auto, unfolding(crate::specs::Records::outcome_of))]
     pub fn outcome(self) -> Outcome
         ensures { result ≡ outcome_of self }
     {
@@ -296,6 +305,7 @@ pub fn values(fields: [u64; MAX_FIELDS]) -> [u64; 18]
 }
 
 // The first difference, after a word at a place.
+#[tactic(auto, unfolding(crate::specs::Records::first_difference))]
 fn first_difference(before: Difference, place: usize, found: u64, recorded: u64) -> Difference
     requires { place < 39 }
     ensures { result ≡ first_difference before place found recorded }
