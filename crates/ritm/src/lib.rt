@@ -21,8 +21,7 @@ use lent_words::{ONE_WORD, SIX_WORDS, THREE_WORDS};
 use memory_access::{Decoded, Fipa, MemoryAccess};
 
 // No range, no region.
-#[unsafe(no_mangle)]
-pub extern "C" fn ritm_fresh_policy(policy: &mut [u8; POLICY_SIZE]) -> u64
+pub fn ritm_fresh_policy(policy: &mut [u8; POLICY_SIZE]) -> u64
     ensures { (result ≡ 0) × (policy.new ≡ replicate policy_size 0) × (policy_at policy.new ≡ fresh_policy) }
 {
     *policy = [0u8; POLICY_SIZE];
@@ -30,8 +29,7 @@ pub extern "C" fn ritm_fresh_policy(policy: &mut [u8; POLICY_SIZE]) -> u64
 }
 
 // Eight fresh cores, and the counter 0.
-#[unsafe(no_mangle)]
-pub extern "C" fn ritm_fresh_cores(cores: &mut [u8; CORES_SIZE]) -> u64
+pub fn ritm_fresh_cores(cores: &mut [u8; CORES_SIZE]) -> u64
     ensures { (result ≡ 0)
         × (cores.new ≡ replicate cores_size 0)
         × (cores_at cores.new ≡ fresh_cores)
@@ -42,8 +40,7 @@ pub extern "C" fn ritm_fresh_cores(cores: &mut [u8; CORES_SIZE]) -> u64
 }
 
 // No entry.
-#[unsafe(no_mangle)]
-pub extern "C" fn ritm_fresh_map(map: &mut [u8; MAP_SIZE]) -> u64
+pub fn ritm_fresh_map(map: &mut [u8; MAP_SIZE]) -> u64
     ensures { (result ≡ 0) × (map.new ≡ replicate map_size 0) × (map_at map.new ≡ empty_map) }
 {
     *map = [0u8; MAP_SIZE];
@@ -51,8 +48,7 @@ pub extern "C" fn ritm_fresh_map(map: &mut [u8; MAP_SIZE]) -> u64
 }
 
 // Allows the guest to access a range directly: refusals 1 to 7.
-#[unsafe(no_mangle)]
-pub extern "C" fn ritm_allow_range(
+pub fn ritm_allow_range(
     policy: &mut [u8; POLICY_SIZE],
     base_ipa: u64,
     size: u64,
@@ -64,8 +60,7 @@ pub extern "C" fn ritm_allow_range(
 }
 
 // Has the guest's accesses to a range handled: refusals 20, 1 to 4, 6, 8, 9.
-#[unsafe(no_mangle)]
-pub extern "C" fn ritm_handle_range(
+pub fn ritm_handle_range(
     policy: &mut [u8; POLICY_SIZE],
     base_ipa: u64,
     size: u64,
@@ -78,8 +73,7 @@ pub extern "C" fn ritm_handle_range(
 }
 
 // Allows the memory that a board's devicetree describes, all of it or none: refusals 21, 22, then 1 to 7 of the first pair that is refused.
-#[unsafe(no_mangle)]
-pub extern "C" fn ritm_import_memory(
+pub fn ritm_import_memory(
     policy: &mut [u8; POLICY_SIZE],
     blob: &[u8],
     attributes: u64,
@@ -90,8 +84,7 @@ pub extern "C" fn ritm_import_memory(
 }
 
 // Releases the first allowed range with this base and size, or else the first such region: refusals 1 to 4, 23.
-#[unsafe(no_mangle)]
-pub extern "C" fn ritm_release_range(
+pub fn ritm_release_range(
     policy: &mut [u8; POLICY_SIZE],
     base_ipa: u64,
     size: u64,
@@ -102,8 +95,7 @@ pub extern "C" fn ritm_release_range(
 }
 
 // The first region held that has the address: whether there is one, its place and the offset in it.
-#[unsafe(no_mangle)]
-pub extern "C" fn ritm_find(
+pub fn ritm_find(
     policy: &[u8; POLICY_SIZE],
     ipa: u64,
     res: &mut [u8; THREE_WORDS],
@@ -114,8 +106,7 @@ pub extern "C" fn ritm_find(
 }
 
 // Puts in a core's registers as the hardware saved them: refusals 10, 11.
-#[unsafe(no_mangle)]
-pub extern "C" fn ritm_save(
+pub fn ritm_save(
     cores: &mut [u8; CORES_SIZE],
     core: u64,
     registers: &[u8; REGISTERS_SIZE],
@@ -126,8 +117,7 @@ pub extern "C" fn ritm_save(
 }
 
 // Takes a core's trap: refusals 10 to 13. The result is the answer's kind and the values of a forwarded call.
-#[unsafe(no_mangle)]
-pub extern "C" fn ritm_trap(
+pub fn ritm_trap(
     policy: &[u8; POLICY_SIZE],
     cores: &mut [u8; CORES_SIZE],
     core: u64,
@@ -150,8 +140,7 @@ pub extern "C" fn ritm_trap(
 }
 
 // Gives a core the answer that it waits for: refusals 10, 14, 15.
-#[unsafe(no_mangle)]
-pub extern "C" fn ritm_reply(
+pub fn ritm_reply(
     cores: &mut [u8; CORES_SIZE],
     core: u64,
     kind: u64,
@@ -164,8 +153,7 @@ pub extern "C" fn ritm_reply(
 }
 
 // The value of a guest register: refusals 10, 17.
-#[unsafe(no_mangle)]
-pub extern "C" fn ritm_read_gpr(
+pub fn ritm_read_gpr(
     cores: &[u8; CORES_SIZE],
     core: u64,
     index: u64,
@@ -177,8 +165,7 @@ pub extern "C" fn ritm_read_gpr(
 }
 
 // Writes a guest register: refusals 10, 17.
-#[unsafe(no_mangle)]
-pub extern "C" fn ritm_write_gpr(
+pub fn ritm_write_gpr(
     cores: &mut [u8; CORES_SIZE],
     core: u64,
     index: u64,
@@ -190,8 +177,7 @@ pub extern "C" fn ritm_write_gpr(
 }
 
 // Holds an entry under a key, in place of the key's last one: refusal 16.
-#[unsafe(no_mangle)]
-pub extern "C" fn ritm_insert(
+pub fn ritm_insert(
     map: &mut [u8; MAP_SIZE],
     key: u64,
     entry_point: u64,
@@ -203,16 +189,14 @@ pub extern "C" fn ritm_insert(
 }
 
 // The entry of a key: whether there is one, its entry point and its context id.
-#[unsafe(no_mangle)]
-pub extern "C" fn ritm_get(map: &[u8; MAP_SIZE], key: u64, res: &mut [u8; THREE_WORDS]) -> u64
+pub fn ritm_get(map: &[u8; MAP_SIZE], key: u64, res: &mut [u8; THREE_WORDS]) -> u64
     ensures { Leaves (get_call map.now key) result map.now res.new }
 {
     lent_map::get(map, key, res)
 }
 
 // The same, and the entry is held no more.
-#[unsafe(no_mangle)]
-pub extern "C" fn ritm_remove(
+pub fn ritm_remove(
     map: &mut [u8; MAP_SIZE],
     key: u64,
     res: &mut [u8; THREE_WORDS],
@@ -223,8 +207,7 @@ pub extern "C" fn ritm_remove(
 }
 
 // The access that a syndrome describes: IPA, bits, WnR, Rt, SSE, SF; refusal 19.
-#[unsafe(no_mangle)]
-pub extern "C" fn ritm_decode(iss: u32, fipa: u64, far: u64, res: &mut [u8; SIX_WORDS]) -> u64
+pub fn ritm_decode(iss: u32, fipa: u64, far: u64, res: &mut [u8; SIX_WORDS]) -> u64
     ensures { Leaves (decode_call iss fipa far) result [] res.new }
 {
     let decoded = MemoryAccess::decode(iss, Fipa(fipa), far);
@@ -233,8 +216,7 @@ pub extern "C" fn ritm_decode(iss: u32, fipa: u64, far: u64, res: &mut [u8; SIX_
 }
 
 // What a load with this syndrome puts into its register, of the value that was read: refusal 19.
-#[unsafe(no_mangle)]
-pub extern "C" fn ritm_extend_read_result(iss: u32, value: u64, res: &mut [u8; ONE_WORD]) -> u64
+pub fn ritm_extend_read_result(iss: u32, value: u64, res: &mut [u8; ONE_WORD]) -> u64
     ensures { Leaves (extend_call iss value) result [] res.new }
 {
     match MemoryAccess::decode(iss, Fipa(0), 0) {
@@ -250,8 +232,7 @@ pub extern "C" fn ritm_extend_read_result(iss: u32, value: u64, res: &mut [u8; O
 }
 
 // The page boundary at or below an address.
-#[unsafe(no_mangle)]
-pub extern "C" fn ritm_align_down_to_page(address: u64, res: &mut [u8; ONE_WORD]) -> u64
+pub fn ritm_align_down_to_page(address: u64, res: &mut [u8; ONE_WORD]) -> u64
     ensures { Leaves (align_down_call address) result [] res.new }
 {
     lent_words::put_one_word(res, stage2_range::align_down_to_page(address));
@@ -259,8 +240,7 @@ pub extern "C" fn ritm_align_down_to_page(address: u64, res: &mut [u8; ONE_WORD]
 }
 
 // The page boundary at or above an address: refusal 18.
-#[unsafe(no_mangle)]
-pub extern "C" fn ritm_align_up_to_page(address: u64, res: &mut [u8; ONE_WORD]) -> u64
+pub fn ritm_align_up_to_page(address: u64, res: &mut [u8; ONE_WORD]) -> u64
     ensures { Leaves (align_up_call address) result [] res.new }
 {
     let aligned = stage2_range::align_up_to_page(address);
@@ -269,8 +249,7 @@ pub extern "C" fn ritm_align_up_to_page(address: u64, res: &mut [u8; ONE_WORD]) 
 }
 
 // The length in bytes of a lent buffer by its number, and 0 where there is none.
-#[unsafe(no_mangle)]
-pub extern "C" fn ritm_buffer_size(buffer: u64) -> u64
+pub fn ritm_buffer_size(buffer: u64) -> u64
     ensures { result ≡ buffer_size buffer }
 {
     let sizes = [
