@@ -11,7 +11,7 @@ use fdt_tokens::{Event, Lexer, be32, begins_with, is_done, terminated};
 
 // The first property of a name in a node: its length, and a number that its name decides (the cell, whether the value is "memory", where
 // the value stands).
-#[derive(Drop)]
+#[derive(Clone, Copy)]
 pub struct First {
     pub seen: bool,
     pub length: u32,
@@ -20,7 +20,7 @@ pub struct First {
 
 // The nodes up to a place in the structure block. `props` where the last token begins a node or is a property; `kind` and `reg` are of the
 // child of the root that was begun last.
-#[derive(Drop)]
+#[derive(Clone, Copy)]
 pub struct Nodes {
     pub ok: bool,
     pub depth: u64,
@@ -32,6 +32,7 @@ pub struct Nodes {
     pub reg: First,
 }
 
+#[tactic(auto, unfolding(crate::specs::Nodes::first_kept))]
 fn first_property(found: First, length: u32, value: u32) -> First
     ensures { result ≡ first_kept found length value }
 {
@@ -46,6 +47,7 @@ fn first_property(found: First, length: u32, value: u32) -> First
 }
 
 // A property whose name is `text`, or another.
+#[tactic(auto, unfolding(crate::specs::Nodes::first_named))]
 fn first_named(
     strings: &[u8],
     name: u32,
@@ -72,6 +74,7 @@ fn none() -> First
     }
 }
 
+#[tactic(auto, unfolding(crate::specs::Nodes::bad_nodes))]
 fn bad(nodes: Nodes) -> Nodes
     ensures { result ≡ bad_nodes nodes }
 {
@@ -81,6 +84,7 @@ fn bad(nodes: Nodes) -> Nodes
 }
 
 // The cell at `at`, in a value of four bytes.
+#[tactic(auto, unfolding(crate::specs::Nodes::cell_at))]
 fn cell(block: &[u8], at: u32, length: u32) -> u32
     ensures { result ≡ cell_at block.now at length }
 {
@@ -90,6 +94,7 @@ fn cell(block: &[u8], at: u32, length: u32) -> u32
     be32(block, at as usize)
 }
 
+#[tactic(auto, unfolding(fdt_tokens::specs::Devicetree::one_or_two))]
 fn is_count(n: u32) -> bool
     ensures { result ≡ one_or_two n }
 {
@@ -99,6 +104,7 @@ fn is_count(n: u32) -> bool
     n == 2
 }
 
+#[tactic(auto, unfolding(crate::specs::Nodes::is_memory))]
 fn is_memory(kind: First) -> bool
     ensures { result ≡ is_memory kind }
 {
@@ -109,6 +115,7 @@ fn is_memory(kind: First) -> bool
 }
 
 // The bytes of one cell, or of two.
+#[tactic(auto, unfolding(crate::specs::Nodes::width))]
 pub fn cells_width(n: u32) -> u32
     ensures { result ≡ width n }
 {
@@ -118,6 +125,7 @@ pub fn cells_width(n: u32) -> u32
     8
 }
 
+#[tactic(auto, unfolding(crate::specs::Nodes::pair_bytes, crate::specs::Nodes::width))]
 pub fn bytes_of_pair(address: u32, size: u32) -> u32
     ensures { result ≡ pair_bytes address size }
 {
@@ -125,6 +133,7 @@ pub fn bytes_of_pair(address: u32, size: u32) -> u32
 }
 
 // Whether a reg is no whole number of pairs, where both counts are 1 or 2.
+#[tactic(auto, using(crate::proofs::Laws::sixteen_left), unfolding(crate::specs::Nodes::ragged_reg))]
 fn ragged_reg(length: u32, address: u32, size: u32) -> bool
     ensures { result ≡ ragged_reg length address size }
 {
@@ -145,6 +154,7 @@ fn ragged_reg(length: u32, address: u32, size: u32) -> bool
 }
 
 // FDT_BEGIN_NODE.
+#[tactic(auto, unfolding(crate::specs::Nodes::begin_node))]
 fn begin_node(nodes: Nodes) -> Nodes
     ensures { result ≡ begin_node nodes }
 {
@@ -170,6 +180,7 @@ fn begin_node(nodes: Nodes) -> Nodes
 }
 
 // After a node's end, at the root's own level: the reg of a memory child is judged.
+#[tactic(auto, unfolding(crate::specs::Nodes::child_end))]
 fn child_end(nodes: Nodes) -> Nodes
     ensures { result ≡ child_end nodes }
 {
@@ -187,6 +198,7 @@ fn child_end(nodes: Nodes) -> Nodes
 }
 
 // FDT_END_NODE.
+#[tactic(auto, unfolding(crate::specs::Nodes::end_node))]
 fn end_node(nodes: Nodes) -> Nodes
     ensures { result ≡ end_node nodes }
 {
@@ -199,6 +211,7 @@ fn end_node(nodes: Nodes) -> Nodes
     child_end(n)
 }
 
+#[tactic(auto, unfolding(crate::specs::Nodes::root_property))]
 fn root_property(
     block: &[u8],
     strings: &[u8],
@@ -218,6 +231,7 @@ fn root_property(
     n
 }
 
+#[tactic(auto, unfolding(crate::specs::Nodes::flag))]
 fn number(b: bool) -> u32
     ensures { result ≡ flag b }
 {
@@ -227,6 +241,7 @@ fn number(b: bool) -> u32
     0
 }
 
+#[tactic(auto, unfolding(crate::specs::Nodes::child_property))]
 fn child_property(
     block: &[u8],
     strings: &[u8],
@@ -247,6 +262,7 @@ fn child_property(
 }
 
 // FDT_PROP, with its value from `at` on.
+#[tactic(auto, unfolding(crate::specs::Nodes::property))]
 fn met_property(
     block: &[u8],
     strings: &[u8],
@@ -273,6 +289,7 @@ fn met_property(
 }
 
 // FDT_END.
+#[tactic(auto, unfolding(crate::specs::Nodes::ended))]
 fn end(nodes: Nodes) -> Nodes
     ensures { result ≡ ended nodes }
 {
@@ -286,6 +303,7 @@ fn end(nodes: Nodes) -> Nodes
 }
 
 // One token.
+#[tactic(auto, unfolding(crate::specs::Nodes::advance))]
 pub fn met(block: &[u8], strings: &[u8], at: u32, nodes: Nodes, event: Event) -> Nodes
     ensures { result ≡ advance block.now strings.now at nodes event }
 {
@@ -299,12 +317,13 @@ pub fn met(block: &[u8], strings: &[u8], at: u32, nodes: Nodes, event: Event) ->
 }
 
 // The structure block up to a place.
-#[derive(Drop)]
+#[derive(Clone, Copy)]
 pub struct Scan {
     pub lexer: Lexer,
     pub nodes: Nodes,
 }
 
+#[tactic(auto, unfolding(crate::specs::Scan::started))]
 pub fn start() -> Scan
     ensures { result ≡ started }
 {
@@ -332,7 +351,7 @@ pub fn start() -> Scan
 }
 
 // What a structure block comes to.
-#[derive(Drop)]
+#[derive(Clone, Copy)]
 pub enum Verdict {
     Accepted,
     Invalid,
@@ -340,6 +359,7 @@ pub enum Verdict {
 }
 
 // What the whole structure block comes to: 21 before 22.
+#[tactic(auto, unfolding(crate::specs::Scan::judged))]
 pub fn judge(lexer: Lexer, nodes: Nodes) -> Verdict
     ensures { result ≡ judged lexer nodes }
 {
@@ -365,6 +385,7 @@ pub fn judge(lexer: Lexer, nodes: Nodes) -> Verdict
 }
 
 // Whether a memory child of the root that has a pair was just ended.
+#[tactic(auto, unfolding(crate::specs::Scan::has_pair))]
 fn has_pair(nodes: Nodes) -> bool
     ensures { result ≡ has_pair nodes }
 {
@@ -381,6 +402,7 @@ fn has_pair(nodes: Nodes) -> bool
     true
 }
 
+#[tactic(auto, unfolding(crate::specs::Scan::at_pair))]
 pub fn at_pair(event: Event, nodes: Nodes) -> bool
     ensures { result ≡ at_pair event nodes }
 {

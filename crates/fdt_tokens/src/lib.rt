@@ -63,7 +63,7 @@ pub fn begins_with(s: &[u8], at: usize, text: &[u8]) -> bool
 
 // What the next four bytes of the structure block are part of: a token's number, a node's name, a property's length, the offset of its
 // name (its length was read), or a value of which so many bytes are left. Then: after FDT_END, and after what is no token.
-#[derive(Drop)]
+#[derive(Clone, Copy)]
 pub enum Lexer {
     Token,
     Name,
@@ -75,7 +75,7 @@ pub enum Lexer {
 }
 
 // A token met, without FDT_NOP. A property is met with its length and the offset of its name, when its value comes next.
-#[derive(Drop)]
+#[derive(Clone, Copy)]
 pub enum Event {
     Nothing,
     Begin,
@@ -84,7 +84,7 @@ pub enum Event {
     End,
 }
 
-#[derive(Drop)]
+#[derive(Clone, Copy)]
 pub struct Lexed {
     pub lexer: Lexer,
     pub event: Event,
