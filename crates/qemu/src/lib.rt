@@ -17,7 +17,7 @@ pub struct FilteredRead {
 
 impl FilteredRead {
     fn new(res: MemoryReadResult, counter: u64) -> Self
-        ensures* { λ r. ⌜ r ≡ record { result = res; counter = counter } ⌝ }
+        ensures { result ≡ record { result = res; counter = counter } }
     {
         FilteredRead {
             result: res,
@@ -41,7 +41,7 @@ pub fn read_filtered_mmio(access: MemoryReadAccess, counter: u64) -> FilteredRea
 
 // A 64-bit load: the word at an offset, and the counter then.
 fn read_word(offset: u64, counter: u64) -> FilteredRead
-    ensures* { λ r. ⌜ r ≡ record { result = page_word offset counter; counter = counter_after (offset == 16) counter } ⌝ }
+    ensures { result ≡ record { result = page_word offset counter; counter = counter_after (offset == 16) counter } }
 {
     match offset {
         0 => FilteredRead::new(MemoryReadResult::Value(0xFEED_FACE_CAFE_BEEF), counter),
