@@ -1,7 +1,7 @@
 # Sourced by board/build-archive and board/test-edits, in the repository's top folder: the kit's own clang, how it
 # compiles the library's module for 64-bit Arm, and what is checked of the module and of the archives.
-KIT=$(dirname "$(dirname "$(rt doc)")")
-TOOLCHAIN=on/$(uname -m)/toolchain
+KIT=$(dirname "$(rt doc)")
+TOOLCHAIN=toolchain
 CLANG=$KIT/$TOOLCHAIN/bin/clang
 TARGET=aarch64-none-elf
 WORK=$PWD/target/board
@@ -16,13 +16,16 @@ CALLS_MODULE=$WORK/calls.ll
 # A host at EL2 saves no other registers of its guest.
 REGISTERS=-mgeneral-regs-only
 
-# The kit's words for an archive, and ours: no position-independent code, a section a function, and the frames' sizes.
+# The kit's words for an archive, among them those that keep clang from passes with known faults, and ours: no
+# position-independent code, a section a function, and the frames' sizes.
 compile() { # MODULE OBJECT [WORDS...]
     module=$1 object=$2
     shift 2
     "$CLANG" --target=$TARGET -march=armv8-a $REGISTERS -fno-pic -ffunction-sections -fdata-sections \
-        -fstack-size-section -mllvm -trap-unreachable -mllvm -no-trap-after-noreturn --no-default-config \
-        -no-canonical-prefixes -fintegrated-cc1 -fno-crash-diagnostics -Werror -O3 "$@" -c -x ir "$module" -o "$object"
+        -fstack-size-section -mllvm -trap-unreachable -mllvm -no-trap-after-noreturn \
+        -mllvm -aarch64-load-store-renaming=false -mllvm -disable-machine-licm -mllvm -disable-postra-machine-licm \
+        -mllvm -sink-common-insts=false --no-default-config -no-canonical-prefixes -fintegrated-cc1 \
+        -fno-crash-diagnostics -Werror -O3 "$@" -c -x ir "$module" -o "$object"
 }
 
 # Ends the script, since what was made is not what it should be.

@@ -1,8 +1,7 @@
 # Sourced by tests/edit and tests/more-edits, in the repository's top folder: tries the edits chosen, and no others.
 #
-# rt must-fail NAME tries all edits in must-fail/ of NAME and of every crate below it. So rt works on a copy of the
-# crates that has the chosen edits alone. The copy's target/ is the repository's own: nothing is proved a second time,
-# and an edit's log is target/must-fail/CRATE/LABEL/.log, as after rt must-fail.
+# rt must-fail NAME tries all edits in must-fail/ of NAME. So rt works on a copy of the crates that has the chosen edits
+# alone; what rt check kept here of the same crates serves there too.
 
 # Makes the copy, without an edit. It is removed when the script ends.
 copy_crates() {
@@ -10,9 +9,13 @@ copy_crates() {
     trap 'rm -rf "$copy"' EXIT
     trap 'exit 130' INT
     trap 'exit 143' TERM
-    cp -R crates crates.txt "$copy"
-    rm -rf "$copy"/crates/*/must-fail "$copy"/crates/*/more-edits
-    ln -s "$PWD/target" "$copy/target"
+    cp crates.txt "$copy"
+    for crate in crates/*; do
+        mkdir -p "$copy/$crate"
+        for part in src specs proofs; do
+            [ ! -d "$crate/$part" ] || cp -R "$crate/$part" "$copy/$crate"
+        done
+    done
 }
 
 # Chooses edits of a crate: CRATE FILE..
@@ -23,7 +26,8 @@ choose() {
     cp "$@" "$folder"
 }
 
-# Tries the edits chosen, of these crates or of every crate. The exit status is that of rt must-fail.
+# Tries the edits chosen, of these crates or of every crate, and says of each how it was refused, or that it was not.
+# The exit status is that of rt must-fail, where 1 says that an edit was not refused, or could not be applied or read.
 try_edits() {
     (cd "$copy" && rt must-fail "$@")
 }
