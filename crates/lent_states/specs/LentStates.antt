@@ -3,14 +3,14 @@
 use Rattle.std.specs.Prelude.{ℕ, ◌≤◌, ℤ, List, [], ◌∷◌, map}
 use Rattle.lent_words.specs.Words.{word_at, words_at, FitsWord, Bytes, Lent}
 use Rattle.stage2.specs.Builds.{allow, handle}
-use Rattle.memory_import.specs.Changes.{builder, import_devicetree, add, release}
+use Rattle.memory_import.specs.Changes.{builder, import_devicetree}
 use Rattle.data_abort.specs.declared.TrapRegisters.{TrapRegisters}
 use Rattle.hvc_response.specs.Response.{signed_word}
 use Rattle.lent_policy.specs.Layout.{policy_at, policy_size}
 use Rattle.lent_cores.specs.Layout.{cores_at, counter_at, elr_word, spsr_word, cores_size}
 use Rattle.lent_map.specs.Layout.{map_at, map_size}
 use Rattle.ritm.specs.Interface.{Left, allow_call, handle_call, import_call, release_call, save_call, trap_call, reply_call, write_call, insert_call, get_call, remove_call}
-use Rattle.order_independence.specs.Calls.{State, HostCall, change, core_call, save, trap, reply, gpr_write, by_value, insert, get, remove}
+use Rattle.order_independence.specs.Calls.{State, HostCall, change, core_call, release_of, save, trap, reply, gpr_write, by_value, insert, get, remove}
 use Rattle.lent_reply.specs.LentReply.{reply_in}
 
 -- the bytes that a host lends
@@ -82,10 +82,10 @@ after_all b (e ∷ es) = after_all (after_call b e) es
 
 -- the host's call that it is, on states: `order_independence` has its meaning
 abbrev pub host_call : Entry → HostCall
-host_call (ritm_allow_range base size attributes) = change (add (builder (allow base size attributes)))
-host_call (ritm_handle_range base size read write) = change (add (builder (handle base size read write)))
-host_call (ritm_import_memory blob attributes) = change (add (import_devicetree blob attributes))
-host_call (ritm_release_range base size) = change (release base size)
+host_call (ritm_allow_range base size attributes) = change (builder (allow base size attributes))
+host_call (ritm_handle_range base size read write) = change (builder (handle base size read write))
+host_call (ritm_import_memory blob attributes) = change (import_devicetree blob attributes)
+host_call (ritm_release_range base size) = release_of base size
 host_call (ritm_save core registers) = core_call (save core (words_at registers 0 31) (word_at registers elr_word) (word_at registers spsr_word))
 host_call (ritm_trap core registers) = core_call (trap core registers)
 host_call (ritm_reply core kind values error) = core_call (reply core (reply_in kind values error))

@@ -10,7 +10,7 @@ use native.Mathlib.Omega.{arith}
 use borrow.Author.Tests.{ltb-true, ne_eqb, eqb-false, not-true}
 use lib.Dec.{eqb, ltb}
 use Rattle.memory_import.specs.Changes.{PolicyCall, add, release}
-use Rattle.order_independence.specs.Calls.{State, fresh_state, CoreCall, save, trap, reply, gpr_write, insert, get, remove, HostCall, change, core_call, Answer, call, core_called, after_steps, answers_to, call_all, IsRefused}
+use Rattle.order_independence.specs.Calls.{State, fresh_state, CoreCall, save, trap, reply, gpr_write, insert, get, remove, HostCall, change, core_call, release_of, Answer, call, core_called, after_steps, answers_to, call_all, IsRefused}
 use Rattle.order_independence.specs.Steps.{is_own, is_above}
 use Rattle.order_independence.specs.OrderIndependence.{Same, Sound}
 use Rattle.order_independence.specs.Phases.{Change, adding, releasing, Phase, after_phases, answers_over}
@@ -21,7 +21,7 @@ use Rattle.order_independence.proofs.Phases.{phase_independent_from}
 
 -- the state after a call that adds
 abbrev added : State → PolicyCall → State
-added s c = (call s (change (add c))).state
+added s c = (call s (change c)).state
 
 -- such a call before phases
 prepended_to-run : (c : PolicyCall) (d : Change) (steps : List CoreCall) (rest : List Phase) (s : State)
@@ -38,8 +38,8 @@ prepended-run c (x ∷ xs) rest s = refl
 -- Any list of calls is a list of phases.
 pub phases_run : (cs : List HostCall) (s : State) → call_all s cs ≡ after_phases s (phases_of cs)
 phases_run [] s = refl
-phases_run (change (add c) ∷ cs) s = phases_run cs (added s c) ∙ sym (prepended-run c (split cs).first (split cs).rest s)
-phases_run (change (release base size) ∷ cs) s = phases_run cs (call s (change (release base size))).state
+phases_run (change c ∷ cs) s = phases_run cs (added s c) ∙ sym (prepended-run c (split cs).first (split cs).rest s)
+phases_run (release_of base size ∷ cs) s = phases_run cs (call s (release_of base size)).state
 phases_run (core_call c ∷ cs) s = phases_run cs (core_called s c).state
 
 -- The same of the answers.
@@ -57,9 +57,9 @@ module _ (fits : CoreCall → Bool) where
 
   pub phases_answers : (cs : List HostCall) (s : State) → core_answers fits s cs ≡ answers_over fits s (phases_of cs)
   phases_answers [] s = refl
-  phases_answers (change (add c) ∷ cs) s =
+  phases_answers (change c ∷ cs) s =
       phases_answers cs (added s c) ∙ sym (prepended-answers c (split cs).first (split cs).rest s)
-  phases_answers (change (release base size) ∷ cs) s = phases_answers cs (call s (change (release base size))).state
+  phases_answers (release_of base size ∷ cs) s = phases_answers cs (call s (release_of base size)).state
   phases_answers (core_call c ∷ cs) s = go (fits c) (phases_answers cs (core_called s c).state)
     where
       next : State
@@ -79,6 +79,7 @@ module _ (fits : CoreCall → Bool) where
 -- A call that may stand anywhere is refused.
 struck_refused : (s : State) (c : HostCall) → is_struck s c ≡ true → IsRefused s c
 struck_refused s (change c) e = eqb-false _ 0 (not-true _ e)
+struck_refused s (release_of base size) e = eqb-false _ 0 (not-true _ e)
 struck_refused s (core_call c) e = λ z. omega (arith, above_is_10 s c e)
 
 -- so the end is the same without such calls
@@ -99,14 +100,17 @@ module _ (fits : CoreCall → Bool) (none : (c : CoreCall) → is_above c ≡ tr
   -- the answer of one call, before the answers to those after it
   abbrev said : State → HostCall → List Answer → List Answer
   said s (change c) rest = rest
+  said s (release_of base size) rest = rest
   said s (core_call c) rest = cond (fits c) ((core_called s c).answer ∷ rest) rest
 
   answers_cons : (s : State) (c : HostCall) (cs : List HostCall) → core_answers fits s (c ∷ cs) ≡ said s c (core_answers fits (call s c).state cs)
   answers_cons s (change c) cs = refl
+  answers_cons s (release_of base size) cs = refl
   answers_cons s (core_call c) cs = refl
 
   said_struck : (s : State) (c : HostCall) (rest : List Answer) → is_struck s c ≡ true → said s c rest ≡ rest
   said_struck s (change c) rest e = refl
+  said_struck s (release_of base size) rest e = refl
   said_struck s (core_call c) rest e = rw (none c e)
 
   struck_said : (cs : List HostCall) (s : State) → core_answers fits s (struck_calls s cs) ≡ core_answers fits s cs
@@ -139,6 +143,7 @@ above_not_own key i h (remove k) e = absurd (true≢false (sym e))
 any_above_10 : (cs : List HostCall) (s : State) → AboveIs10 s cs
 any_above_10 [] s a m = absurd (Memᴰ.not-nil m)
 any_above_10 (change c ∷ cs) s a m = any_above_10 cs (call s (change c)).state a m
+any_above_10 (release_of base size ∷ cs) s a m = any_above_10 cs (call s (release_of base size)).state a m
 any_above_10 (core_call c ∷ cs) s a m = go (is_above c) refl m (any_above_10 cs (core_called s c).state a)
   where
     later : List Answer

@@ -6,12 +6,13 @@ use lib.ListN.{set}
 use Rattle.stage2.specs.Policy.{fresh_policy}
 use Rattle.stage2.specs.Builds.{WellFormed}
 use Rattle.stage2.proofs.WellFormed.{fresh_well_formed, build_all_keeps}
+use Rattle.memory_import.specs.Changes.{add, release}
 use Rattle.memory_import.proofs.Changes.{change_by_keeps, changed_well_formed, change_by-same}
 use Rattle.simple_map.specs.Map.{get_item, remove_item, insert_item}
 use Rattle.exceptions.specs.Registers.{core_of, write_gpr}
 use Rattle.hypervisor.specs.Cores.{save_on, reply_on, trap_on}
 use Rattle.hypervisor.proofs.Steps.{trap_policy, trap_by_regions}
-use Rattle.order_independence.specs.Calls.{State, CoreCall, save, trap, reply, gpr_write, insert, get, remove, HostCall, change, core_call, changed, stepped, trapped, written, inserted, looked_up, core_called, call, call_all, call_answers}
+use Rattle.order_independence.specs.Calls.{State, CoreCall, save, trap, reply, gpr_write, insert, get, remove, HostCall, change, core_call, release_of, changed, stepped, trapped, written, inserted, looked_up, core_called, call, call_all, call_answers}
 use Rattle.order_independence.specs.StillHeld.{still_held, Like, LaterSame}
 use Rattle.order_independence.proofs.CoreCalls.{core_policy}
 use Rattle.order_independence.proofs.StillHeld.{from_fresh}
@@ -61,13 +62,17 @@ core_like s t like (remove key) =
 call_like : (s t : State) → WellFormed s.policy → WellFormed t.policy → Like s t → (c : HostCall)
     → ((call s c).answer ≡ (call t c).answer) × Like (call s c).state (call t c).state
 call_like s t w w' like (change c) =
-    let r = change_by-same s.policy t.policy like.policies w w' c in
+    let r = change_by-same s.policy t.policy like.policies w w' (add c) in
+    (ap changed r.0, record { policies = r.1; all_cores = like.all_cores; counters = like.counters; maps = like.maps })
+call_like s t w w' like (release_of base size) =
+    let r = change_by-same s.policy t.policy like.policies w w' (release base size) in
     (ap changed r.0, record { policies = r.1; all_cores = like.all_cores; counters = like.counters; maps = like.maps })
 call_like s t w w' like (core_call c) = core_like s t like c
 
 -- every call keeps the policy well formed
 pub call_keeps : (s : State) (c : HostCall) → WellFormed s.policy → WellFormed (call s c).state.policy
-call_keeps s (change c) w = change_by_keeps s.policy c w
+call_keeps s (change c) w = change_by_keeps s.policy (add c) w
+call_keeps s (release_of base size) w = change_by_keeps s.policy (release base size) w
 call_keeps s (core_call c) w = rw (core_policy s c) w
 
 -- Every list of calls has the same answers from both, and ends in states that are alike.

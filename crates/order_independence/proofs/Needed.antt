@@ -13,7 +13,7 @@ use Rattle.exceptions.specs.Registers.{core_of}
 use Rattle.data_abort.specs.declared.TrapRegisters.{TrapRegisters}
 use Rattle.simple_map.proofs.Opened as simple-map
 use Rattle.hypervisor.proofs.Opened as hypervisor
-use Rattle.order_independence.specs.Calls.{State, fresh_state, by_value, CoreCall, trap, gpr_write, insert, HostCall, change, core_call, Answer, inserted, after_changes, after_steps, answers_to, call_all}
+use Rattle.order_independence.specs.Calls.{State, fresh_state, by_value, CoreCall, trap, gpr_write, insert, HostCall, change, core_call, release_of, Answer, inserted, after_changes, after_steps, answers_to, call_all}
 use Rattle.order_independence.specs.Steps.{is_own}
 use Rattle.order_independence.specs.OrderIndependence.{Same}
 use Rattle.order_independence.specs.Phases.{Phase, adding, releasing, answers_over}
@@ -65,16 +65,16 @@ ninth_key = (refl, refl)
 
 -- In phases: a module's allow call or handle call, its release, and a load of the filtered page's counter word.
 abbrev pub plug : HostCall
-plug = change (add (builder (handle 0x0F000000 4096 1 1)))
+plug = change (builder (handle 0x0F000000 4096 1 1))
 
 abbrev pub pull : HostCall
-pull = change (release 0x0F000000 4096)
+pull = release_of 0x0F000000 4096
 
 abbrev pub load_on_0 : HostCall
 load_on_0 = core_call (trap 0 load)
 
 abbrev ram : HostCall
-ram = change (add (builder (allow 0x0F000000 4096 7)))
+ram = change (builder (allow 0x0F000000 4096 7))
 
 -- A release and an allow of the range that it frees may not change places: the range is held at the end, or it is not. (Two releases may:
 -- `releases_commute`, crates/stage2/proofs/Commute.antt.)

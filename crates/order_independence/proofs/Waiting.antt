@@ -23,7 +23,7 @@ use Rattle.core_answers.specs.declared.TrapStep.{TrapStep}
 use Rattle.hypervisor.specs.declared.Trapped.{Trapped}
 use Rattle.core_answers.specs.Answers.{core_number, is_forwarded}
 use Rattle.hypervisor.specs.Cores.{fresh_cores, save_core, on_core, save_on, reply_on, trap_on}
-use Rattle.order_independence.specs.Calls.{State, fresh_state, HostCall, change, core_call, GprForm, save, trap, reply, gpr_write, insert, get, remove, call, call_all, wait_of, outstanding_after, outstanding}
+use Rattle.order_independence.specs.Calls.{State, fresh_state, HostCall, change, core_call, release_of, GprForm, save, trap, reply, gpr_write, insert, get, remove, call, call_all, wait_of, outstanding_after, outstanding}
 use Rattle.hypervisor.proofs.Waiting.{save_wait, trap_waits}
 use Rattle.hypervisor.proofs.Steps.{trap_step, trap_others, trap_places, core_step, core_others, core_places}
 
@@ -81,6 +81,7 @@ module _ (s : State) (i : ℕ) (within : i ≤ 7) (places : length s.cores ≡ 8
 
   waits-after : (c : HostCall) → waits (wait_of (call s c).state i) ≡ outstanding_after s i (waits (wait_of s i)) c
   waits-after (change c) = refl
+  waits-after (release_of base size) = refl
   waits-after (core_call (save core x elr spsr)) = save_after x elr spsr core
   waits-after (core_call (trap core registers)) = trap_after registers core
   waits-after (core_call (reply core result)) = reply-after result core
@@ -93,6 +94,7 @@ module _ (s : State) (i : ℕ) (within : i ≤ 7) (places : length s.cores ≡ 8
 pub call_places : (s : State) (c : HostCall) → length (call s c).state.cores ≡ length s.cores
 unfolding save_on reply_on
 call_places s (change c) = refl
+call_places s (release_of base size) = refl
 call_places s (core_call (save core x elr spsr)) = core_places s.cores core _
 call_places s (core_call (trap core registers)) = trap_places s.policy s.cores s.counter core registers
 call_places s (core_call (reply core result)) = core_places s.cores core _

@@ -2,7 +2,7 @@
 use Rattle.std.specs.Prelude.{ℕ, ◌<◌, ◌≡◌, Bool, not, cond}
 use mathlib.Core.List.{List, [], ◌∷◌, Memᴰ}
 use Rattle.memory_import.specs.Changes.{PolicyCall, add, release}
-use Rattle.order_independence.specs.Calls.{State, CoreCall, HostCall, change, core_call, Answer, answer_number, answer_values, AllZero, call, core_called, call_all}
+use Rattle.order_independence.specs.Calls.{State, CoreCall, HostCall, change, core_call, release_of, Answer, answer_number, answer_values, AllZero, call, core_called, call_all}
 use Rattle.order_independence.specs.Steps.{is_own, is_above}
 use Rattle.order_independence.specs.StillHeld.{accepts_change}
 use Rattle.order_independence.specs.OrderIndependence.{Same}
@@ -31,8 +31,8 @@ prepended c (x ∷ xs) ps = phase (adding (c ∷ [])) (x ∷ xs) ∷ ps
 -- a list of calls: the core steps before the first call that changes the policy, and the phases from there on
 abbrev pub split : List HostCall → Split
 split [] = record { first = []; rest = [] }
-split (change (add c) ∷ cs) = record { first = []; rest = prepended c (split cs).first (split cs).rest }
-split (change (release base size) ∷ cs) = record { first = []; rest = phase (releasing base size) (split cs).first ∷ (split cs).rest }
+split (change c ∷ cs) = record { first = []; rest = prepended c (split cs).first (split cs).rest }
+split (release_of base size ∷ cs) = record { first = []; rest = phase (releasing base size) (split cs).first ∷ (split cs).rest }
 split (core_call c ∷ cs) = record { first = c ∷ (split cs).first; rest = (split cs).rest }
 
 -- a list of calls, as phases
@@ -43,12 +43,14 @@ phases_of cs = phase (adding []) (split cs).first ∷ (split cs).rest
 abbrev pub core_answers : (CoreCall → Bool) → State → List HostCall → List Answer
 core_answers fits s [] = []
 core_answers fits s (change c ∷ cs) = core_answers fits (call s (change c)).state cs
+core_answers fits s (release_of base size ∷ cs) = core_answers fits (call s (release_of base size)).state cs
 core_answers fits s (core_call c ∷ cs) =
     cond (fits c) ((core_called s c).answer ∷ core_answers fits (core_called s c).state cs) (core_answers fits (core_called s c).state cs)
 
 -- a call that may stand anywhere: one that would change the policy and is refused, which is no policy change, or a step on a number above 7
 abbrev pub is_struck : State → HostCall → Bool
-is_struck s (change c) = not (accepts_change s.policy c)
+is_struck s (change c) = not (accepts_change s.policy (add c))
+is_struck s (release_of base size) = not (accepts_change s.policy (release base size))
 is_struck s (core_call c) = is_above c
 
 -- the calls of a run but for those

@@ -4,7 +4,7 @@ use mathlib.Core.List.{List, [], ◌∷◌, foldl, Memᴰ}
 use Rattle.stage2_range.specs.declared.Stage2Result.{Stage2Result}
 use Rattle.stage2_range.specs.Ranges.{result_number}
 use Rattle.stage2.specs.declared.Policy.{Policy}
-use Rattle.stage2.specs.Policy.{fresh_policy}
+use Rattle.stage2.specs.Policy.{fresh_policy, release_range}
 use Rattle.memory_import.specs.Changes as changes
 use Rattle.simple_map.specs.declared.SimpleMap.{SimpleMap}
 use Rattle.simple_map.specs.declared.SuspendCoreData.{SuspendCoreData}
@@ -49,10 +49,11 @@ pub data CoreCall : Type 0 where
   get : (key : ℕ) → CoreCall
   remove : (key : ℕ) → CoreCall
 
--- the calls of the host: a call that changes the policy, or a core step
+-- the calls of the host: a call that changes the policy, or a core step; and the release of a range (document 02, "Ask 5")
 pub data HostCall : Type 0 where
-  change : (call : changes.PolicyChange) → HostCall
+  change : (call : changes.PolicyCall) → HostCall
   core_call : (call : CoreCall) → HostCall
+  release_of : (base size : ℕ) → HostCall
 
 -- what a call answers, with every result field beside the state
 pub data Answer : Type 0 where
@@ -128,11 +129,14 @@ core_called s (remove key) =
 -- a call, by the same
 abbrev pub call : State → HostCall → Called
 call s (change c) =
-    let b = changes.change_by s.policy c in
+    let b = changes.change s.policy c in
     record { answer = changed b.answer; state = with_policy s b.policy }
 call s (core_call c) = core_called s c
+call s (release_of base size) =
+    let b = release_range s.policy base size in
+    record { answer = changed b.answer; state = with_policy s b.policy }
 
--- the state after a list of calls that add to the policy
+-- the state after a list of calls that change the policy
 abbrev pub after_changes : State → List changes.PolicyCall → State
 after_changes s calls = with_policy s (changes.change_all s.policy calls)
 
@@ -169,6 +173,7 @@ wait_of s i = (core_of s.cores i).wait
 -- whether core `i` is between a forwarded call (document 01: a hand-out) and its reply, after one more call
 abbrev pub outstanding_after : State → ℕ → Bool → HostCall → Bool
 outstanding_after s i before (change c) = before
+outstanding_after s i before (release_of base size) = before
 outstanding_after s i before (core_call (save core x elr spsr)) = before
 outstanding_after s i before (core_call (trap core registers)) =
     cond (eqb core i && is_forwarded (trap_on s.policy s.cores s.counter core registers).result.answer) true before
