@@ -99,18 +99,3 @@ find_target() {
         missing 2 "the folder $PWD/target cannot be written"
     rm "$probe"
 }
-
-# Puts temporary files into memory, where it has 2 GiB free and lets programs run, unless TMPDIR names a place: each
-# check copies some 1,400 files of the logic there and removes them, which takes a second or more on a disk.
-use_memory() {
-    [ -z "${TMPDIR:-}" ] || return 0
-    free=$(df -Pk /dev/shm 2>/dev/null | awk 'NR == 2 { print $4 }')
-    [ "${free:-0}" -ge 2097152 ] || return 0
-    probe=$(mktemp -d /dev/shm/probe.XXXXXX 2>/dev/null) || return 0
-    echo '#!/bin/sh' >"$probe/run"
-    chmod +x "$probe/run"
-    if "$probe/run" 2>/dev/null; then
-        export TMPDIR=/dev/shm
-    fi
-    rm -r "$probe"
-}

@@ -24,7 +24,7 @@
 //! - RITM has no release. Beside the port's stands what its user would do: a builder made anew, which takes what is
 //!   still held by `allow_range` and `handle_range`.
 //! - Both sides are release builds: this workspace's profile (no checks of sums, no LTO across crates, the default
-//!   codegen units), and the archive as `rt staticlib` makes it. CARGO_PROFILE_RELEASE_LTO=fat measures RITM with LTO.
+//!   codegen units), and the archive as `rt lib` makes it. CARGO_PROFILE_RELEASE_LTO=fat measures RITM with LTO.
 //!
 //! RITM's environment is stubs. What RITM hands to them is made, and nothing is done with it: no page table is written, no
 //! PSCI call is parsed, no monitor is called; messages are dropped. The platform is Qemu's, which answers with a constant
