@@ -25,6 +25,7 @@ fn lex_at(lexer: Lexer, block: &[u8], at: usize) -> Lexed
 }
 
 // The first pass: the structure block, whole.
+#[tactic(auto, using(crate::proofs::Laws::scan_refused, crate::proofs::Laws::scan_judged), unfolding(crate::specs::Passes::judged_block))]
 fn judge_block(block: &[u8], strings: &[u8]) -> Verdict
     requires { length block.now ≤ 65536 }
     ensures { result ≡ judged_block block.now strings.now }
@@ -49,7 +50,7 @@ fn judge_block(block: &[u8], strings: &[u8]) -> Verdict
 }
 
 // A place after the end of a memory child that has a pair; `found` is false where there is none.
-#[derive(Drop)]
+#[derive(Clone, Copy)]
 pub struct Found {
     pub found: bool,
     pub at: usize,
@@ -57,6 +58,7 @@ pub struct Found {
 }
 
 // The second pass: the next memory child that has a pair.
+#[tactic(auto, using(crate::proofs::Laws::pairs_none, crate::proofs::Laws::pairs_hit, crate::proofs::Laws::pairs_miss, crate::proofs::Laws::pairs_skip))]
 fn next_reg(block: &[u8], strings: &[u8], from: usize, scan: Scan) -> Found
     requires { length block.now ≤ 65536 }
     ensures { pairs_from block.now strings.now from scan.lexer scan.nodes (drop from block.now) ≡ (if result.found then reg_pairs block.now result.scan.nodes ++ pairs_from block.now strings.now result.at result.scan.lexer result.scan.nodes (drop result.at block.now) else []) }
@@ -95,6 +97,7 @@ fn next_reg(block: &[u8], strings: &[u8], from: usize, scan: Scan) -> Found
 }
 
 // A number of one or two cells.
+#[tactic(auto, unfolding(crate::specs::Passes::cells_at))]
 fn cells(s: &[u8], at: usize, n: u32) -> u64
     requires { at + 4 < 2 ^ 64 }
     ensures { result ≡ cells_at s.now at n }
@@ -106,7 +109,7 @@ fn cells(s: &[u8], at: usize, n: u32) -> u64
 }
 
 // What is left of the second pass: of a reg the `left` bytes from `place` on, then the block from `at` on.
-#[derive(Drop)]
+#[derive(Clone, Copy)]
 pub struct Walk {
     pub at: usize,
     pub scan: Scan,
@@ -115,7 +118,7 @@ pub struct Walk {
 }
 
 // A pair, and what is left after it; `found` is false where there is none.
-#[derive(Drop)]
+#[derive(Clone, Copy)]
 pub struct Handed {
     pub found: bool,
     pub base: u64,
@@ -124,6 +127,7 @@ pub struct Handed {
 }
 
 // The pair at `place`, after which `left` bytes are left in its reg.
+#[tactic(auto, unfolding(crate::specs::Passes::handed))]
 fn hand_out(block: &[u8], walk: Walk, place: u32, left: u32) -> Handed
     ensures { result ≡ handed block.now walk place left }
 {
@@ -152,6 +156,7 @@ fn after_first(length: u32, bytes: u32) -> u32
 }
 
 // The next pair: of the reg that the walk is in, or of the next memory child that has one.
+#[tactic(auto, using(crate::proofs::Laws::out_of_reg, crate::proofs::Laws::out_of_none, crate::proofs::Laws::out_of_next))]
 fn next_in(block: &[u8], strings: &[u8], walk: Walk) -> Handed
     requires { length block.now ≤ 65536 }
     ensures { left_in block.now strings.now walk ≡ (if result.found then pair_of result.base result.size ∷ left_in block.now strings.now result.walk else []) }
@@ -185,28 +190,28 @@ fn next_in(block: &[u8], strings: &[u8], walk: Walk) -> Handed
 }
 
 // Where a block stands in the slice.
-#[derive(Drop)]
+#[derive(Clone, Copy)]
 pub struct Part {
     pub from: usize,
     pub to: usize,
 }
 
 // The structure block and the strings block.
-#[derive(Drop)]
+#[derive(Clone, Copy)]
 pub struct Blocks {
     pub block: Part,
     pub strings: Part,
 }
 
 // A place among the pairs of a slice.
-#[derive(Drop)]
+#[derive(Clone, Copy)]
 pub struct Cursor {
     pub blocks: Blocks,
     pub walk: Walk,
 }
 
 // What a slice says of memory: it is no blob (21), its root's cell counts are other than 1 and 2 (22), or its pairs, from the first on.
-#[derive(Drop)]
+#[derive(Clone, Copy)]
 pub enum Memory {
     Invalid,
     UnsupportedCellCounts,
@@ -214,6 +219,7 @@ pub enum Memory {
 }
 
 // The first pass decides whether there are pairs, and these blocks have them.
+#[tactic(auto, unfolding(crate::specs::Blob::memory_by))]
 fn memory_by(verdict: Verdict, blocks: Blocks) -> Memory
     ensures { result ≡ memory_by verdict blocks }
 {
@@ -233,6 +239,7 @@ fn memory_by(verdict: Verdict, blocks: Blocks) -> Memory
 }
 
 // Whether sixteen zero bytes stand at `at`.
+#[tactic(auto, unfolding(crate::specs::Blob::zero_entry))]
 fn zero_entry(s: &[u8], at: usize) -> bool
     requires { at + 12 < 2 ^ 64 }
     ensures { result ≡ zero_entry s.now at }
@@ -250,6 +257,7 @@ fn zero_entry(s: &[u8], at: usize) -> bool
 }
 
 // Whether the reservation list from `from` on has its end before `total`.
+#[tactic(auto, using(crate::proofs::Laws::entry_here, crate::proofs::Laws::entry_done), unfolding(crate::specs::Blob::list_ends))]
 fn reservations_end(s: &[u8], from: usize, total: usize) -> bool
     requires { total ≤ length s.now }
     ensures { result ≡ list_ends s.now from ((total - from) / 16) }
@@ -270,6 +278,7 @@ fn reservations_end(s: &[u8], from: usize, total: usize) -> bool
 }
 
 // Magic, versions, alignment and the reservation list.
+#[tactic(auto, unfolding(crate::specs::Blob::header_ok))]
 fn header_ok(s: &[u8], total: usize) -> bool
     requires { total ≤ length s.now }
     ensures { result ≡ header_ok s.now total }
@@ -294,6 +303,7 @@ fn header_ok(s: &[u8], total: usize) -> bool
 }
 
 // The memory of the blob that is the slice's first `total` bytes.
+#[tactic(auto, unfolding(crate::specs::Blob::blob_memory, crate::specs::Blob::blocks_memory))]
 fn blob_memory(s: &[u8], total: usize) -> Memory
     requires { (total ≤ length s.now) × (total ≤ 65536) }
     ensures { result ≡ blob_memory s.now total }
@@ -326,6 +336,7 @@ fn blob_memory(s: &[u8], total: usize) -> Memory
 }
 
 // The memory of the blob at the front of a slice.
+#[tactic(auto, unfolding(crate::specs::Blob::memory_of))]
 pub fn read_memory(s: &[u8]) -> Memory
     ensures { result ≡ memory_of s.now }
 {
@@ -346,6 +357,7 @@ pub fn read_memory(s: &[u8]) -> Memory
 }
 
 // Whether a part lies in a slice of `n` bytes and ends at 64 KiB at most.
+#[tactic(auto, unfolding(crate::specs::Blob::inside_of))]
 fn inside(n: usize, from: usize, to: usize) -> bool
     ensures { result ≡ inside_of n from to }
 {
@@ -362,7 +374,7 @@ fn inside(n: usize, from: usize, to: usize) -> bool
 }
 
 // A pair, and the place after it; `found` is false where there is none.
-#[derive(Drop)]
+#[derive(Clone, Copy)]
 pub struct Next {
     pub found: bool,
     pub base: u64,
@@ -394,6 +406,7 @@ fn next_of(s: &[u8], blocks: Blocks, walk: Walk) -> Handed
 }
 
 // The next pair of the slice that the cursor was made for. Of another slice it hands out something, or nothing.
+#[tactic(auto, using(crate::proofs::Laws::left_outside, crate::proofs::Laws::left_outside_strings, crate::proofs::Laws::inside_is, crate::proofs::Laws::left_inside))]
 pub fn next_pair(s: &[u8], cursor: Cursor) -> Next
     ensures { pairs_left s.now cursor ≡ (if result.found then pair_of result.base result.size ∷ pairs_left s.now result.cursor else []) }
 {
