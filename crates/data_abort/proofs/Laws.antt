@@ -87,7 +87,7 @@ module _ (regions : List MemoryAccessRegion) (core : Core) (counter : ℕ) (trap
   handled_answer : (kind : MemoryAccessKind) (absent : Bool) → (handled trap kind absent access (offset_in found) core counter).result.answer ≡ AccessHandled kind
   handled_answer Read true = refl
   handled_answer Read false = refl
-  handled_answer Write absent = refl
+  handled_answer Write _ = refl
 
   -- each answer exactly in its case: the abort where an injection is due, 13 where VBAR is 0 then, else the access in its direction
   pub abort_answer : (handle_data_abort regions core counter trap).result.answer
@@ -115,9 +115,9 @@ module _ (regions : List MemoryAccessRegion) (core : Core) (counter : ℕ) (trap
   Kept step = (trap_number step.result.answer ≡ 0 → ⊥) → (error : CoreError) × (step ≡ refused_trap error core counter)
 
   handled-accepted : (kind : MemoryAccessKind) (absent : Bool) (access : MemoryAccess) (offset : ℕ) → Kept (handled trap kind absent access offset core counter)
-  handled-accepted Read true access offset h = absurd (h refl)
-  handled-accepted Read false access offset h = absurd (h refl)
-  handled-accepted Write absent access offset h = absurd (h refl)
+  handled-accepted Read true _ _ h = absurd (h refl)
+  handled-accepted Read false _ _ h = absurd (h refl)
+  handled-accepted Write _ _ _ h = absurd (h refl)
 
   pub abort_refused : Kept (handle_data_abort regions core counter trap)
   unfolding inject_data_abort
@@ -142,7 +142,7 @@ module _ (P : Core → ℕ → Type 0) (core : Core) (counter : ℕ) (same : P c
       subst (λ v. P (advance_pc (write_gpr core access.register_index v).core) counter) (extended_zero access) (load access 0 false)
   after-handled trap Read false access offset =
       load access (word_read (read_filtered_mmio (page_read access offset) counter).result) (loads_counter (page_read access offset))
-  after-handled trap Write absent access offset = store
+  after-handled trap Write _ _ _ = store
 
   pub abort_all : (regions : List MemoryAccessRegion) (trap : TrapRegisters) → P (injected core trap) counter
       → After (handle_data_abort regions core counter trap)
