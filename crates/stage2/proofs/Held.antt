@@ -86,10 +86,10 @@ module _ (p q : Policy) (same : SameHeld p q) where
           let g = allow_holds p w base size attributes h in
           let k = allow_holds q w' base size attributes (sym (build_answer_same d) ∙ h) in
           same-held _ _ (build_keeps p d w) (build_keeps q d w')
-          (g.0 ∙ ap (insert_before _ _) same.allowed ∙ sym k.0) (g.1 ∙ same.regions ∙ sym k.1)
+          (g.0 ∙ ap (insert_before (λ x. false) (range_of base size attributes)) same.allowed ∙ sym k.0) (g.1 ∙ same.regions ∙ sym k.1)
       go (handle base size read write) Accepted h =
           let d = handle base size read write in
           let g = handle_holds p w base size read write h in
           let k = handle_holds q w' base size read write (sym (build_answer_same d) ∙ h) in
           same-held _ _ (build_keeps p d w) (build_keeps q d w')
-          (g.0 ∙ same.allowed ∙ sym k.0) (g.1 ∙ ap (insert_before _ _) same.regions ∙ sym k.1)
+          (g.0 ∙ same.allowed ∙ sym k.0) (g.1 ∙ ap (insert_before (λ x. leb base x.base_ipa) (region_of base size read write)) same.regions ∙ sym k.1)

@@ -6,6 +6,4 @@ pub mod Release
 pub mod Freed
 pub mod Commute
 pub mod ReleaseValues
--- Machine values that the walks of this crate cite.
-mod Values
 pub mod Opened
