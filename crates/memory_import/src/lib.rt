@@ -13,6 +13,7 @@ use stage2::{Built, Policy};
 use stage2_range::{Stage2ConfigError, Stage2Result};
 
 // The calls of all pairs from a place on, one by one; where one is refused, its answer and the policy given.
+#[tactic(auto, using(crate::proofs::Laws::pairs_none, crate::proofs::Laws::pair_refused, crate::proofs::Laws::pair_allowed, fdt::proofs::Laws::left_less))]
 fn allow_pairs(policy: Policy, blob: &[u8], first: Cursor, attributes: u64) -> Built
     ensures { result ≡ built_by (answer_of_all policy (allow_calls attributes (pairs_left blob.now first))) policy (build_all policy (allow_calls attributes (pairs_left blob.now first))) }
 {
@@ -43,6 +44,7 @@ fn allow_pairs(policy: Policy, blob: &[u8], first: Cursor, attributes: u64) -> B
 
 // Allows the memory that the blob at the front of a slice describes, with one attribute word: refusals 21, 22, then 1 to 7 of the first
 // pair that is refused.
+#[tactic(auto, using(crate::proofs::Laws::import_invalid, crate::proofs::Laws::import_unsupported, crate::proofs::Laws::import_pairs))]
 pub fn import_memory(policy: Policy, blob: &[u8], attributes: u64) -> Built
     ensures { result ≡ import_memory policy blob.now attributes }
 {
