@@ -9,13 +9,14 @@ use records::{Call, Record};
 use simple_map::{Inserted, Lookup, Removed, SimpleMap, SuspendCoreData};
 
 // The record with its answer compared, and the map then.
-#[derive(Drop)]
+#[derive(Clone, Copy)]
 pub struct MapTaken {
     pub compared: Record,
     pub map: SimpleMap,
 }
 
 // Makes the record's call; a record of something else passes as it is.
+#[tactic(auto, unfolding(crate::specs::Maps::map_taken))]
 pub fn take(map: SimpleMap, recorded: Record, call: Call) -> MapTaken
     ensures { result ≡ map_taken map recorded call }
 {

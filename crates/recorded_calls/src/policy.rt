@@ -12,13 +12,14 @@ use stage2::{Built, Policy};
 use stage2_range::RegionFound;
 
 // The record with its answer compared, and the policy then.
-#[derive(Drop)]
+#[derive(Clone, Copy)]
 pub struct PolicyTaken {
     pub compared: Record,
     pub policy: Policy,
 }
 
 // Makes the record's call; a record of something else passes as it is.
+#[tactic(auto, unfolding(crate::specs::Policies::policy_taken))]
 pub fn take(policy: Policy, recorded: Record, call: Call) -> PolicyTaken
     ensures { result ≡ policy_taken policy recorded call }
 {
@@ -54,6 +55,7 @@ fn built(recorded: Record, built: Built) -> PolicyTaken
 }
 
 // The records that leave the policy as it is. The lent form of a search sees all places: those past the count are fresh, and hold no address.
+#[tactic(auto, unfolding(crate::specs::Policies::policy_read))]
 fn read(policy: Policy, recorded: Record, code: u64, a: u64) -> Record
     ensures { result ≡ policy_read policy recorded code a }
 {

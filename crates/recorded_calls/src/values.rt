@@ -10,6 +10,7 @@ use records::{Call, Record};
 use stage2_range::AlignedUp;
 
 // Makes the record's call; a record of something else passes as it is.
+#[tactic(auto, unfolding(crate::specs::Values::value_compared))]
 pub fn take(recorded: Record, call: Call) -> Record
     ensures { result ≡ value_compared recorded call }
 {
