@@ -143,9 +143,23 @@ fn put_region(policy: &mut [u8; POLICY_SIZE], place: usize, region: MemoryAccess
     );
 }
 
-// Stores a region at another place too; where one of the places is none, nothing. (By its words: to make a handler of each code and a
-// number of that again took a quarter more instructions.)
-pub fn copy_region(policy: &mut [u8; POLICY_SIZE], from: u64, to: u64)
+// Stores a region at the next place too. (By its words: to make a handler of each code and a number of that again took a quarter more
+// instructions.)
+fn copy_region(policy: &mut [u8; POLICY_SIZE], place: usize)
+    requires { place < 15 }
+    ensures { policy.new ≡ with_region policy.old (place + 1) (region_at policy.old place) }
+{
+    let from = REGIONS + REGION_WORDS * place;
+    let base_ipa = lent_words::get_word(policy, from);
+    let size = lent_words::get_word(policy, from + SIZE_WORD);
+    let end_ipa = lent_words::get_word(policy, from + END_WORD);
+    let read = lent_words::get_word(policy, from + READ_WORD);
+    let write = lent_words::get_word(policy, from + WRITE_WORD);
+    put_region_words(policy, place + 1, base_ipa, size, end_ipa, read, write);
+}
+
+// Stores a region at any other place too; where one of the places is none, nothing. (By its words, as `copy_region`.)
+pub fn copy_region_to(policy: &mut [u8; POLICY_SIZE], from: u64, to: u64)
     ensures { policy.new ≡ with_copy policy.old from to }
 {
     if MAX_MEMORY_ACCESS_HANDLERS <= from {
@@ -388,7 +402,7 @@ fn place_at(policy: &mut [u8; POLICY_SIZE], n: u64, at: u64, region: MemoryAcces
     lent_words::are_bytes(policy);
     let mut place = n;
     while at < place {
-        copy_region(policy, place - 1, place);
+        copy_region(policy, (place - 1) as usize);
         place -= 1;
     }
     put_region(policy, at as usize, region);

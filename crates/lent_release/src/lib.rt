@@ -103,7 +103,7 @@ fn remove_region(policy: &mut [u8; POLICY_SIZE], n: u64, at: u64)
     let last = n - 1;
     let mut place = at;
     while place < last {
-        lent_policy::copy_region(policy, place + 1, place);
+        lent_policy::copy_region_to(policy, place + 1, place);
         place += 1;
     }
     lent_words::put_word(policy, REGION_COUNT, last);

@@ -1,0 +1,27 @@
+use native.Mathlib.Omega.{arith}
+use Rattle.lists.proofs.Laws.{first_done}
+use Rattle.stage2_range.specs.Registry.{region_bytes}
+use Rattle.stage2_range.proofs.Ranges.{overlap_here, overlap_later}
+use Rattle.lent_policy.specs.Layout.{region_at}
+use Rattle.lent_policy.proofs.Search.{region_read, regions_begin}
+use Rattle.lent_policy.proofs.overlaps_regions.Goals as goal
+
+pub loop-place-init : goal.loop-place-init
+loop-place-init c = regions_begin _ _
+
+pub returns-then-shares_byte : goal.returns-then-shares_byte
+returns-then-shares_byte c =
+    let b = c.args.policy.now in
+    let l = c.loop-place in
+    overlap_here region_bytes _ l.invariant (omega arith) (omega arith) (region_at b 0) c.shares_byte.ensures
+    (region_read b l.place (omega arith) (region_at b 0)) c.if-shares_byte.true
+
+pub loop-place-preserved : goal.loop-place-preserved
+loop-place-preserved c =
+    let b = c.args.policy.now in
+    let l = c.loop-place in
+    overlap_later region_bytes _ l.invariant (omega arith) (omega arith) (region_at b 0) c.shares_byte.ensures
+    (region_read b l.place (omega arith) (region_at b 0)) c.if-shares_byte.false
+
+pub returns : goal.returns
+returns c = first_done c.loop-place.invariant (omega arith)
