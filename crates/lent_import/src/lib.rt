@@ -13,6 +13,7 @@ use lent_policy::POLICY_SIZE;
 use stage2_range::Stage2ConfigError;
 
 // The calls of all pairs from a place on, one by one, up to the first that is refused.
+#[tactic(auto, using(crate::proofs::Laws::none_left, fdt::proofs::Laws::left_less))]
 fn allow_pairs(policy: &mut [u8; POLICY_SIZE], blob: &[u8], first: Cursor, attributes: u64) -> u64
     ensures { (result ≡ calls_number policy.old (allow_calls attributes (pairs_left blob.now first)))
         × (result ≡ 0 → policy.new ≡ calls_bytes policy.old (allow_calls attributes (pairs_left blob.now first))) }
@@ -33,6 +34,7 @@ fn allow_pairs(policy: &mut [u8; POLICY_SIZE], blob: &[u8], first: Cursor, attri
 }
 
 // The calls of all pairs, or none: they are made on a copy, so that a refusal has changed no byte, and none of a free place.
+#[tactic(auto, using(crate::proofs::Laws::all_refused, crate::proofs::Laws::all_allowed))]
 fn allow_all(policy: &mut [u8; POLICY_SIZE], blob: &[u8], first: Cursor, attributes: u64) -> u64
     ensures { Leaves (calls_leave policy.old (allow_calls attributes (pairs_left blob.now first))) result policy.new [] }
 {
@@ -45,6 +47,7 @@ fn allow_all(policy: &mut [u8; POLICY_SIZE], blob: &[u8], first: Cursor, attribu
 }
 
 // Allows the memory that the blob at the front of a slice describes: refusals 21, 22, then 1 to 7 of the first pair that is refused.
+#[tactic(auto, using(crate::proofs::Laws::invalid_leaves, crate::proofs::Laws::unsupported_leaves, crate::proofs::Laws::pairs_leave))]
 pub fn import_memory(policy: &mut [u8; POLICY_SIZE], blob: &[u8], attributes: u64) -> u64
     ensures { Leaves (import_call policy.old blob.now attributes) result policy.new [] }
 {
