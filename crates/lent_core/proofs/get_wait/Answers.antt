@@ -1,4 +1,3 @@
-use borrow.Author.Rules.{rules}
 use Prim.Native.Nat.{◌+◌, ◌*◌}
 use mathlib.Core.Path.{sym, ap, ◌∙◌}
 use lib.Dec.{ltb}
@@ -8,22 +7,12 @@ use Rattle.exceptions.specs.declared.Core.{Core}
 use Rattle.exceptions.specs.Registers.{fresh_core}
 use Rattle.lent_cores.specs.Layout.{wait_by_code, core_at, core_length, wait_word}
 use Rattle.lent_core.proofs.InPlace.{of_core}
-use Rattle.lent_core.proofs.get_wait.Statement.{statement}
-use Rattle.lent_core.proofs.get_wait.Tie as tie
+use Rattle.lent_core.proofs.get_wait.Goals as goal
 
-get-at-requires : tie.Need-get-at-requires
-get-at-requires c κs = search rules
-
-wait-of-requires : tie.Need-wait-of-requires
-wait-of-requires c κs = search rules
-
-returns : tie.Need-returns
+pub returns : goal.returns
 unfolding fresh_core core_at wait_by_code
-returns c = let a = c.before.before.args in
-    c.wait-of.ensures
-    ∙ ap wait_by_code c.before.get_at.ensures
+returns c = let a = c.args in
+    c.wait_of.ensures
+    ∙ ap wait_by_code c.get_at.ensures
     ∙ cond_map wait_by_code (ltb 7 a.core) 0 (word_at a.cores.now (core_length * a.core + wait_word))
     ∙ sym (of_core (λ (one : Core). one.wait) a.cores.now a.core)
-
-pub get-wait-spec : {M : Type 1} → statement M
-get-wait-spec = tie.close (tie.spec get-at-requires wait-of-requires returns)
