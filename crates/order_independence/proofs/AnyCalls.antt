@@ -9,7 +9,7 @@ use mathlib.Core.Logic.{◌⊎◌, inl, inr}
 use native.Mathlib.Omega.{arith}
 use borrow.Author.Tests.{ltb-true, ne_eqb, eqb-false, not-true}
 use lib.Dec.{eqb, ltb}
-use Rattle.memory_import.specs.Changes.{PolicyCall, add, release}
+use Rattle.memory_import.specs.Changes.{PolicyCall}
 use Rattle.order_independence.specs.Calls.{State, fresh_state, CoreCall, save, trap, reply, gpr_write, insert, get, remove, HostCall, change, core_call, release_of, Answer, call, core_called, after_steps, answers_to, call_all, IsRefused}
 use Rattle.order_independence.specs.Steps.{is_own, is_above}
 use Rattle.order_independence.specs.OrderIndependence.{Same, Sound}

@@ -88,4 +88,4 @@ run_like (c ∷ cs) s t w w' like =
 pub later_same : LaterSame
 later_same cs later s =
     run_like later _ _ (changed_well_formed cs) (build_all_keeps fresh_policy (still_held cs) fresh_well_formed)
-    (record { policies = (from_fresh cs).same-held; all_cores = refl; counters = refl; maps = refl })
+    (record { policies = (from_fresh cs).same_held; all_cores = refl; counters = refl; maps = refl })

@@ -5,7 +5,7 @@ use mathlib.Core.List.{List, [], ◌∷◌, map}
 use native.Mathlib.Omega.{arith}
 use lib.ListN.{length, get_or}
 use Rattle.stage2.specs.Builds.{allow, handle}
-use Rattle.memory_import.specs.Changes.{builder, add, release}
+use Rattle.memory_import.specs.Changes.{builder}
 use Rattle.simple_map.specs.declared.SuspendCoreData.{SuspendCoreData}
 use Rattle.simple_map.specs.declared.Insertion.TheVariants.{Accepted, CapacityExceeded}
 use Rattle.simple_map.specs.Map.{get_item, lookup_values}

@@ -8,7 +8,7 @@ use mathlib.Core.List.Permᴰ
 use mathlib.Core.List.{List, [], ◌∷◌, ◌++◌, append-nil, append_assoc, Memᴰ, Permᴰ}
 use mathlib.Core.Logic.{◌⊎◌, inl, inr}
 use borrow.Author.Tests.{eqb-true, eqb-false}
-use lib.Dec.{eqb}
+use lib.Dec.{eqb, leb}
 use Rattle.lists.specs.Lists.{held, any_of, without_first, insert_before}
 use Rattle.lists.proofs.Laws.{FirstFit, first_or_none, both_true, insert_end, inserted_all, none_any, any_none, any_member}
 use Rattle.lists.proofs.Sorting.{insertion_all}
@@ -115,8 +115,8 @@ module _ (p : Policy) (calls : List BuilderCall) (base size : ℕ) (w : WellForm
   asked : CanRelease p base size → ((c : BuilderCall) → Memᴰ c calls → asks_for base size c ≡ false) → ⊥
   asked can others =
       let none = other_calls calls fresh_policy base size fresh_well_formed afresh.all_accepted others (fresh_none base size) in
-      let e : range_held p base size ≡ false = none_any (is_range base size) (allowed_held p) (rw afresh.same-held.allowed none.0) in
-      let f : region_held p base size ≡ false = none_any (is_region base size) (regions_held p) (rw afresh.same-held.regions none.1) in
+      let e : range_held p base size ≡ false = none_any (is_range base size) (allowed_held p) (rw afresh.same_held.allowed none.0) in
+      let f : region_held p base size ≡ false = none_any (is_region base size) (regions_held p) (rw afresh.same_held.regions none.1) in
       true≢false (sym (or-second _ _ e can.is_held) ∙ f)
 
   -- the first that does may be made last of all
@@ -143,11 +143,11 @@ module _ (p : Policy) (calls : List BuilderCall) (base size : ℕ) (w : WellForm
     less_well_formed = build_all_keeps fresh_policy rest fresh_well_formed
 
     regions_now : regions_held p ≡ regions_held (build less c).policy
-    regions_now = afresh.same-held.regions ∙ last_again.1.regions ∙ ap regions_held (build-append rest (c ∷ []) fresh_policy)
+    regions_now = afresh.same_held.regions ∙ last_again.1.regions ∙ ap regions_held (build-append rest (c ∷ []) fresh_policy)
 
     ranges_now : allowed_held p ≡ ranges_of f.before ++ ranges_of (c ∷ f.after)
     ranges_now =
-        afresh.same-held.allowed
+        afresh.same_held.allowed
         ∙ fresh_ranges calls afresh.all_accepted
         ∙ ap ranges_of f.parts
         ∙ ranges-append f.before (c ∷ f.after)
@@ -220,7 +220,7 @@ module _ (p : Policy) (calls : List BuilderCall) (base size : ℕ) (w : WellForm
           rw (without_first_lem (asks_for base size) calls c f)
           (record {
             all_accepted = rest-accepted c f;
-            same-held = same-held _ _ (release_keeps p base size w) (less_well_formed c f) h.0 h.1;
+            same_held = same-held _ _ (release_keeps p base size w) (less_well_formed c f) h.0 h.1;
           })
 
   -- and where some call asks for the range, it is accepted
@@ -238,8 +238,9 @@ module _ (p : Policy) (calls : List BuilderCall) (base size : ℕ) (w : WellForm
       let k = handle_accepted (less c f) b s rd wr (last_accepted c f) in
       let t = both_true (eqb b base) (eqb s size) f.here in
       let g = handle_holds (less c f) (less_well_formed c f) b s rd wr (last_accepted c f) in
+      let above = λ (x : MemoryAccessRegion). leb b x.base_ipa in
       let inside =
-      (insertion_all (λ x. Memᴰ x (insert_before _ (region_of b s rd wr) (regions_held (less c f)))) _ (region_of b s rd wr)
+      (insertion_all (λ x. Memᴰ x (insert_before above (region_of b s rd wr) (regions_held (less c f)))) above (region_of b s rd wr)
       (regions_held (less c f)) (λ x m. m)).0 in
       let some : region_held p base size ≡ true =
       any_member (is_region base size) (regions_held p) (region_of b s rd wr) (rw (regions_now c f ∙ g.1) inside) f.here in
@@ -274,11 +275,11 @@ added_afresh (c ∷ cs) p calls w afresh all =
 
     next : BuiltAfresh (build p c).policy (calls ++ (c ∷ []))
     next =
-        let again = sym (build_answer_same p made afresh.same-held c) ∙ all.0 in
-        let same = build-same-held p made afresh.same-held c w (build_all_keeps fresh_policy calls fresh_well_formed) in
+        let again = sym (build_answer_same p made afresh.same_held c) ∙ all.0 in
+        let same = build-same-held p made afresh.same_held c w (build_all_keeps fresh_policy calls fresh_well_formed) in
         record {
           all_accepted = all_append calls (c ∷ []) fresh_policy afresh.all_accepted (again, tt);
-          same-held = rw (build-append calls (c ∷ []) fresh_policy) same;
+          same_held = rw (build-append calls (c ∷ []) fresh_policy) same;
         }
 
 -- one call more, accepted
@@ -304,7 +305,7 @@ all_afresh (c ∷ cs) p calls w afresh =
 pub from_fresh : FromFresh
 from_fresh cs =
     all_afresh cs fresh_policy [] fresh_well_formed
-    (record { all_accepted = tt; same-held = record { allowed_counts = refl; region_counts = refl; allowed = refl; regions = refl } })
+    (record { all_accepted = tt; same_held = record { allowed_counts = refl; region_counts = refl; allowed = refl; regions = refl } })
 
 -- From fresh, a release is accepted exactly where a call still held asks for its range.
 pub release_by_calls : (cs : List PolicyChange) (base size : ℕ)

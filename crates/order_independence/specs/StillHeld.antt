@@ -34,7 +34,7 @@ still_held cs = held_from fresh_policy [] cs
 -- a policy holds what these calls make afresh, each of them accepted
 pub record BuiltAfresh (p : Policy) (calls : List BuilderCall) : Type 0 where
   pub all_accepted : AllBuilt fresh_policy calls
-  pub same-held : SameHeld p (build_all fresh_policy calls)
+  pub same_held : SameHeld p (build_all fresh_policy calls)
 
 -- "After any sequence from fresh the policy equals one built afresh from the ranges still held, in their order of arrival"
 abbrev pub FromFresh : Type 0
