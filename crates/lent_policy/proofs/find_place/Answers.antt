@@ -1,5 +1,5 @@
 use native.Mathlib.Omega.{arith}
-use Rattle.lists.proofs.Laws.{index_here, index_later, index_done}
+use Rattle.lists.proofs.Laws.{index_here, index_later}
 use Rattle.stage2_range.proofs.Ranges.{has_told}
 use Rattle.lent_policy.specs.Layout.{region_at}
 use Rattle.lent_policy.proofs.Search.{region_read, regions_index_begins}
@@ -21,6 +21,3 @@ loop-place-preserved c =
     let l = c.loop-place in
     index_later l.invariant (omega arith) (omega arith) (region_at b 0)
     (has_told _ c.has_byte.ensures (region_read b l.place (omega arith) (region_at b 0)) c.if-has_byte.false)
-
-pub returns : goal.returns
-returns c = index_done c.loop-place.invariant (omega arith)

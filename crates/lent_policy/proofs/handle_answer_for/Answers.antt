@@ -24,10 +24,6 @@ room c =
     let b = c.args.policy.now in
     lt-leb 16 (policy_at b).region_count (omega (arith, c.if-get_region_count-ge-MAX_MEMORY_ACCESS_HANDLERS.false, c.get_region_count.ensures, region_count b))
 
-pub returns-then-overlaps_allowed : goal.returns-then-overlaps_allowed
-returns-then-overlaps_allowed c =
-    rw (overlaps_told range_bytes _ _ c.overlaps_allowed.ensures c.bytes-region_bytes.ensures c.if-overlaps_allowed.true)
-
 pub returns-then-get_region_count-ge-MAX_MEMORY_ACCESS_HANDLERS : goal.returns-then-get_region_count-ge-MAX_MEMORY_ACCESS_HANDLERS
 returns-then-get_region_count-ge-MAX_MEMORY_ACCESS_HANDLERS c =
     let b = c.args.policy.now in

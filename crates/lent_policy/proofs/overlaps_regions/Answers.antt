@@ -1,5 +1,4 @@
 use native.Mathlib.Omega.{arith}
-use Rattle.lists.proofs.Laws.{first_done}
 use Rattle.stage2_range.specs.Registry.{region_bytes}
 use Rattle.stage2_range.proofs.Ranges.{overlap_here, overlap_later}
 use Rattle.lent_policy.specs.Layout.{region_at}
@@ -22,6 +21,3 @@ loop-place-preserved c =
     let l = c.loop-place in
     overlap_later region_bytes _ l.invariant (omega arith) (omega arith) (region_at b 0) c.shares_byte.ensures
     (region_read b l.place (omega arith) (region_at b 0)) c.if-shares_byte.false
-
-pub returns : goal.returns
-returns c = first_done c.loop-place.invariant (omega arith)

@@ -1,17 +1,12 @@
 use native.Mathlib.Omega.{arith}
 use Prim.Native.Nat.{◌+◌, ◌-◌}
-use mathlib.Core.Path.{◌≡◌, sym}
+use mathlib.Core.Path.{◌≡◌}
 use Rattle.lent_words.specs.Words.{Lent}
 use Rattle.lent_policy.specs.Layout.{policy_size, region_at, with_region}
 use Rattle.lent_policy.proofs.Records.{region_beside}
 use Rattle.lent_policy.proofs.InPlace.{region_lent, region_rewritten, region_comm}
-use Rattle.lent_policy.proofs.Insertion.{shift_none, shift_step, shift_done}
+use Rattle.lent_policy.proofs.Insertion.{shift_step, shift_done}
 use Rattle.lent_policy.proofs.place_at.Goals as goal
-
-pub loop-place-init : goal.loop-place-init
-loop-place-init c =
-    let a = c.args in
-    (omega arith, omega arith, sym (shift_none region_at with_region (Lent policy_size) region_lent region_rewritten region_beside region_comm a.n a.policy.now))
 
 pub loop-place-preserved : goal.loop-place-preserved
 loop-place-preserved c =

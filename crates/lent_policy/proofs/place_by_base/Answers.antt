@@ -1,6 +1,6 @@
 use native.Mathlib.Omega.{arith}
 use borrow.Author.Tests.{le-leb, lt-leb}
-use Rattle.lists.proofs.Laws.{index_here, index_later, index_done}
+use Rattle.lists.proofs.Laws.{index_here, index_later}
 use Rattle.lent_policy.specs.Layout.{region_at}
 use Rattle.lent_policy.proofs.Records.{region_of_lem}
 use Rattle.lent_policy.proofs.Search.{regions_index_begins}
@@ -22,6 +22,3 @@ loop-place-preserved c =
     let b = a.policy.now in
     let n = c.loop-place.place in
     index_later c.loop-place.invariant (omega arith) (omega arith) (region_at b 0) (rw (region_of_lem b n (region_at b 0) (omega arith), ← c.get_region_base.ensures) (lt-leb _ _ c.if-base_ipa-get_region_base.false))
-
-pub returns : goal.returns
-returns c = index_done c.loop-place.invariant (omega arith)

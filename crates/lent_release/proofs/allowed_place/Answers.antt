@@ -1,0 +1,26 @@
+use native.Mathlib.Omega.{arith}
+use Rattle.lists.proofs.Laws.{index_here, index_later, index_done}
+use Rattle.lent_policy.specs.Layout.{range_at}
+use Rattle.lent_policy.proofs.Search.{ranges_index_begins}
+use Rattle.lent_release.proofs.Laws.{range_told}
+use Rattle.lent_release.proofs.allowed_place.Goals as goal
+
+pub loop-place-init : goal.loop-place-init
+loop-place-init c = ranges_index_begins _ _
+
+pub returns-then-is_stored : goal.returns-then-is_stored
+returns-then-is_stored c =
+    let b = c.args.policy.now in
+    let l = c.loop-place in
+    index_here l.invariant (omega arith) (omega arith) (range_at b 0)
+    (range_told b _ _ l.place (omega arith) (range_at b 0) c.is_stored.ensures c.if-is_stored.true)
+
+pub loop-place-preserved : goal.loop-place-preserved
+loop-place-preserved c =
+    let b = c.args.policy.now in
+    let l = c.loop-place in
+    index_later l.invariant (omega arith) (omega arith) (range_at b 0)
+    (range_told b _ _ l.place (omega arith) (range_at b 0) c.is_stored.ensures c.if-is_stored.false)
+
+pub returns : goal.returns
+returns c = index_done c.loop-place.invariant (omega arith)
