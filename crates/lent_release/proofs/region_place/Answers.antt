@@ -1,5 +1,5 @@
 use native.Mathlib.Omega.{arith}
-use Rattle.lists.proofs.Laws.{index_here, index_later, index_done}
+use Rattle.lists.proofs.Laws.{index_here, index_later}
 use Rattle.lent_policy.specs.Layout.{region_at}
 use Rattle.lent_policy.proofs.Search.{regions_index_begins}
 use Rattle.lent_release.proofs.Laws.{region_told}
@@ -21,6 +21,3 @@ loop-place-preserved c =
     let l = c.loop-place in
     index_later l.invariant (omega arith) (omega arith) (region_at b 0)
     (region_told b _ _ l.place (omega arith) (region_at b 0) c.is_stored.ensures c.if-is_stored.false)
-
-pub returns : goal.returns
-returns c = index_done c.loop-place.invariant (omega arith)

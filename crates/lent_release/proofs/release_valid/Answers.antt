@@ -4,9 +4,6 @@ use native.Mathlib.Omega.{arith}
 use Rattle.lent_release.proofs.Laws.{range_leaves, region_leaves, none_leaves}
 use Rattle.lent_release.proofs.release_valid.Goals as goal
 
-pub remove_range-requires : goal.remove_range-requires
-remove_range-requires c = omega (arith, c.allowed_held-ranges.ensures)
-
 pub returns-then-at-ranges : goal.returns-then-at-ranges
 returns-then-at-ranges c =
     let a = c.args in
@@ -14,9 +11,6 @@ returns-then-at-ranges c =
     let at = c.allowed_place-at.ensures in
     rw (range_leaves a.policy.now a.base_ipa a.size (omega (arith, n, at, c.if-at-ranges.true)), ← at, ← n)
     (refl, c.remove_range.ensures, refl)
-
-pub remove_region-requires : goal.remove_region-requires
-remove_region-requires c = omega (arith, c.regions_held-regions.ensures)
 
 pub returns-then-place-regions : goal.returns-then-place-regions
 returns-then-place-regions c =

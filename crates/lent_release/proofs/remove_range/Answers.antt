@@ -1,16 +1,11 @@
 use Prim.Native.Nat.{◌-◌}
-use mathlib.Core.Path.{◌≡◌, sym}
+use mathlib.Core.Path.{◌≡◌}
 use native.Mathlib.Omega.{arith}
 use Rattle.lent_words.specs.Words.{Lent}
 use Rattle.lent_policy.specs.Layout.{policy_size}
-use Rattle.lent_release.proofs.Removal.{close_none, close_step}
+use Rattle.lent_release.proofs.Removal.{close_step}
 use Rattle.lent_release.proofs.Laws.{ranges, ranges-closed}
 use Rattle.lent_release.proofs.remove_range.Goals as goal
-
-pub loop-place-init : goal.loop-place-init
-loop-place-init c =
-    let a = c.args in
-    (omega arith, omega arith, omega arith, sym (close_none ranges a.policy.now a.at))
 
 pub loop-place-preserved : goal.loop-place-preserved
 loop-place-preserved c =
