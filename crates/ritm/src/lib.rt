@@ -73,44 +73,28 @@ pub fn ritm_handle_range(
 }
 
 // Allows the memory that a board's devicetree describes, all of it or none: refusals 21, 22, then 1 to 7 of the first pair that is refused.
-pub fn ritm_import_memory(
-    policy: &mut [u8; POLICY_SIZE],
-    blob: &[u8],
-    attributes: u64,
-) -> u64
+pub fn ritm_import_memory(policy: &mut [u8; POLICY_SIZE], blob: &[u8], attributes: u64) -> u64
     ensures { Leaves (import_call policy.old blob.now attributes) result policy.new [] }
 {
     lent_import::import_memory(policy, blob, attributes)
 }
 
 // Releases the first allowed range with this base and size, or else the first such region: refusals 1 to 4, 23.
-pub fn ritm_release_range(
-    policy: &mut [u8; POLICY_SIZE],
-    base_ipa: u64,
-    size: u64,
-) -> u64
+pub fn ritm_release_range(policy: &mut [u8; POLICY_SIZE], base_ipa: u64, size: u64) -> u64
     ensures { Leaves (release_call policy.old base_ipa size) result policy.new [] }
 {
     lent_release::release_range(policy, base_ipa, size)
 }
 
 // The first region held that has the address: whether there is one, its place and the offset in it.
-pub fn ritm_find(
-    policy: &[u8; POLICY_SIZE],
-    ipa: u64,
-    res: &mut [u8; THREE_WORDS],
-) -> u64
+pub fn ritm_find(policy: &[u8; POLICY_SIZE], ipa: u64, res: &mut [u8; THREE_WORDS]) -> u64
     ensures { Leaves (find_call policy.now ipa) result policy.now res.new }
 {
     lent_policy::find(policy, ipa, res)
 }
 
 // Puts in a core's registers as the hardware saved them: refusals 10, 11.
-pub fn ritm_save(
-    cores: &mut [u8; CORES_SIZE],
-    core: u64,
-    registers: &[u8; REGISTERS_SIZE],
-) -> u64
+pub fn ritm_save(cores: &mut [u8; CORES_SIZE], core: u64, registers: &[u8; REGISTERS_SIZE]) -> u64
     ensures { Leaves (save_call cores.old core registers.now) result cores.new [] }
 {
     lent_core::save(cores, core, registers)
@@ -165,24 +149,14 @@ pub fn ritm_read_gpr(
 }
 
 // Writes a guest register: refusals 10, 17.
-pub fn ritm_write_gpr(
-    cores: &mut [u8; CORES_SIZE],
-    core: u64,
-    index: u64,
-    value: u64,
-) -> u64
+pub fn ritm_write_gpr(cores: &mut [u8; CORES_SIZE], core: u64, index: u64, value: u64) -> u64
     ensures { Leaves (write_call cores.old core index value) result cores.new [] }
 {
     lent_core::write_gpr(cores, core, index, value)
 }
 
 // Holds an entry under a key, in place of the key's last one: refusal 16.
-pub fn ritm_insert(
-    map: &mut [u8; MAP_SIZE],
-    key: u64,
-    entry_point: u64,
-    context_id: u64,
-) -> u64
+pub fn ritm_insert(map: &mut [u8; MAP_SIZE], key: u64, entry_point: u64, context_id: u64) -> u64
     ensures { Leaves (insert_call map.old key entry_point context_id) result map.new [] }
 {
     lent_map::insert(map, key, entry_point, context_id)
@@ -196,11 +170,7 @@ pub fn ritm_get(map: &[u8; MAP_SIZE], key: u64, res: &mut [u8; THREE_WORDS]) -> 
 }
 
 // The same, and the entry is held no more.
-pub fn ritm_remove(
-    map: &mut [u8; MAP_SIZE],
-    key: u64,
-    res: &mut [u8; THREE_WORDS],
-) -> u64
+pub fn ritm_remove(map: &mut [u8; MAP_SIZE], key: u64, res: &mut [u8; THREE_WORDS]) -> u64
     ensures { Leaves (remove_call map.old key) result map.new res.new }
 {
     lent_map::remove(map, key, res)
