@@ -1,6 +1,6 @@
 -- The calls of the C interface that are document 01's builder calls and core steps, imports and releases, on the bytes that a host lends, beside
 -- the calls that they are. Assumes nothing.
-use Rattle.std.specs.Prelude.{ℕ, ◌≤◌, ℤ, List, [], ◌∷◌, map}
+use Rattle.std.specs.Prelude.{ℕ, ◌≤◌, ℤ, List, [], ◌∷◌}
 use Rattle.lent_words.specs.Words.{word_at, words_at, FitsWord, Bytes, Lent}
 use Rattle.stage2.specs.Builds.{allow, handle}
 use Rattle.memory_import.specs.Changes.{builder, import_devicetree}
