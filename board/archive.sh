@@ -35,19 +35,20 @@ fail() {
 }
 
 # Every word that a module for both targets may have: types of 1 to 64 bits and pointers, whose sizes and alignments
-# agree, arithmetic on them, branches, calls, and accesses with their alignment. So there is no floating point, vector,
-# i128, assembly, volatile or atomic access, global variable, or feature of a processor.
+# agree, arithmetic on them, branches, calls, accesses with their alignment, and constant bytes. So there is no floating
+# point, vector, i128, assembly, volatile or atomic access, variable, or feature of a processor.
 KNOWN_WORDS='
     ptr i64 i32 i16 i8 i1 x void label true false align noundef zeroext nuw nsw inbounds to start
     define declare internal attributes source_filename "rattle"
-    alloca load store getelementptr call ret br switch unreachable
+    constant private unnamed_addr c null
+    alloca load store getelementptr extractvalue call ret br switch unreachable
     add sub mul udiv urem and or xor shl lshr ashr zext sext trunc icmp eq ne ult ule ugt uge slt sle sgt sge
     nounwind nocallback nofree willreturn memory argmem read write readwrite readonly writeonly captures none immarg
-    "probe-stack" "inline-asm"'
+    "probe-stack" "inline-asm" "stack-probe-size" "3072"'
 
-# The words of a module: what is no comment, name, label, number or note, and no line that names the target.
+# The words of a module: what is no comment, name, label, number, constant byte or note, and no line that names the target.
 words_of() { # MODULE
-    sed -e '/^target /d' -e 's/@"[^"]*"//g' -e 's/![^, ]*"[^"]*"//g' -e 's/;.*//' -e 's/[%@!#][-A-Za-z0-9._$]*//g' \
+    sed -e '/^target /d' -e 's/@"[^"]*"//g' -e 's/ c"[^"]*"/ c/' -e 's/![^, ]*"[^"]*"//g' -e 's/;.*//' -e 's/[%@!#][-A-Za-z0-9._$]*//g' \
         -e 's/^[a-z]*\.*[0-9]*://' "$1" | grep -oE '"[^"]*"|[A-Za-z_<][A-Za-z0-9_.]*' | sort -u
 }
 
