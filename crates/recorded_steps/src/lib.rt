@@ -18,7 +18,7 @@ use records::{Call, Record};
 use stage2::Policy;
 
 // The record with its answer compared, and the cores and the counter then.
-#[derive(Drop)]
+#[derive(Clone, Copy)]
 pub struct CoresTaken {
     pub compared: Record,
     pub cores: [Core; 8],
@@ -26,6 +26,7 @@ pub struct CoresTaken {
 }
 
 // Makes the record's call; a record of something else passes as it is.
+#[tactic(auto, unfolding(crate::specs::Steps::cores_taken))]
 pub fn take(
     policy: Policy,
     cores: [Core; 8],
@@ -58,6 +59,7 @@ fn pass(compared: Record, cores: [Core; 8], counter: u64) -> CoresTaken
 }
 
 // The records that leave the cores as they are.
+#[tactic(auto, unfolding(crate::specs::Steps::core_read))]
 fn read(cores: [Core; 8], counter: u64, recorded: Record, call: Call) -> Record
     ensures { result ≡ core_read cores counter recorded call }
 {
