@@ -4,52 +4,51 @@
 
 mod state;
 
-use libc::{STDIN_FILENO, STDOUT_FILENO};
 use records::{Difference, Line, Outcome};
 use state::State;
+use std::io;
+use std::io::Read;
 
 // The line that says how many records agree.
-fn say_agreed(agreed: u64) {
-    io::print_decimal(STDOUT_FILENO, agreed);
-    io::write_all(STDOUT_FILENO, b" records agree\n");
+fn say_agreed(rt: &impl Print, agreed: u64) -> io::Result<()> {
+    println!(rt; "{agreed} records agree")
 }
 
 // Begins the line about the first record that does not agree, after the line about those that do.
-fn say_line(agreed: u64) {
-    say_agreed(agreed);
-    io::write_all(STDOUT_FILENO, b"line ");
-    io::print_decimal(STDOUT_FILENO, std::num::wrapping_add_u64(agreed, 1));
+fn say_line(rt: &impl Print, agreed: u64) -> io::Result<()> {
+    say_agreed(rt, agreed)?;
+    let line = agreed.wrapping_add(1);
+    print!(rt; "line {line}")
 }
 
-fn say_difference(difference: Difference) {
-    io::write_all(STDOUT_FILENO, b" does not: field ");
-    io::print_decimal(STDOUT_FILENO, difference.field);
-    io::write_all(STDOUT_FILENO, b" is 0x");
-    io::print_hex(STDOUT_FILENO, difference.found, 1);
-    io::write_all(STDOUT_FILENO, b", recorded 0x");
-    io::print_hex(STDOUT_FILENO, difference.recorded, 1);
-    io::write_all(STDOUT_FILENO, b"\n");
+fn say_difference(rt: &impl Print, difference: Difference) -> io::Result<()> {
+    let Difference {
+        field,
+        found,
+        recorded,
+    } = difference;
+    println!(rt; " does not: field {field} is {found:#x}, recorded {recorded:#x}")
 }
 
 // Whether the run goes on after such an outcome; where not, says why.
-fn goes_on(outcome: Outcome, agreed: u64) -> bool {
+fn goes_on(rt: &impl Print, outcome: Outcome, agreed: u64) -> io::Result<bool> {
     match outcome {
-        Outcome::Agrees => true,
+        Outcome::Agrees => Ok(true),
         Outcome::Differs(difference) => {
-            say_line(agreed);
-            say_difference(difference);
-            false
+            say_line(rt, agreed)?;
+            say_difference(rt, difference)?;
+            Ok(false)
         }
         Outcome::NoRecord => {
-            say_line(agreed);
-            io::write_all(STDOUT_FILENO, b" is not a record\n");
-            false
+            say_line(rt, agreed)?;
+            println!(rt; " is not a record")?;
+            Ok(false)
         }
     }
 }
 
 // A run under way: the library's state, the line that is read, how many records agree, and whether all did.
-#[derive(Drop)]
+#[derive(Clone, Copy)]
 struct Run {
     state: State,
     line: Line,
@@ -68,59 +67,59 @@ fn start() -> Run {
 }
 
 // The run after the end of a line.
-fn end_line(run: Run) -> Run {
+fn end_line(rt: &impl Print, run: Run) -> io::Result<Run> {
     let state = run.state;
     let line = run.line;
     let record = line.record();
     let taken = state::take(state, record, record.call());
     let state = taken.state;
     let compared = taken.compared;
-    Run {
+    Ok(Run {
         state,
         line: Line::empty(),
-        agreed: std::num::wrapping_add_u64(run.agreed, 1),
-        goes_on: goes_on(compared.outcome(), run.agreed),
-    }
+        agreed: run.agreed.wrapping_add(1),
+        goes_on: goes_on(rt, compared.outcome(), run.agreed)?,
+    })
 }
 
 // The run after this part of the text, and no further than the first record that does not agree.
-fn read_text(run: Run, text: &[u8]) -> Run {
+fn read_text(rt: &impl Print, run: Run, text: &[u8]) -> io::Result<Run> {
     let mut run = run;
-    let mut i: usize = 0;
-    while i < text.len() {
-        if text[i] == b'\n' {
-            run = end_line(run);
+    for byte in text {
+        if *byte == b'\n' {
+            run = end_line(rt, run)?;
             if !run.goes_on {
-                return run;
+                return Ok(run);
             }
         } else {
             let line = run.line;
-            let next = line.with_byte(text[i]);
+            let next = line.with_byte(*byte);
             run.line = next;
         }
-        i += 1;
     }
-    run
+    Ok(run)
 }
+
+// How much of the text is read at once.
+const PART: u64 = 65536;
 
 // The most parts in which the text is read: a run of that many has no end.
 const MAX_READS: u64 = 0x100_0000_0000;
 
-fn main() {
-    let mut buffer = io::large_buffer();
+fn main(rt: HostRuntime) -> io::Result<()> {
+    let mut input = rt.reader();
+    let mut text = Vec::with_capacity(rt.alloc(), PART as usize)?;
     let mut run = start();
-    let mut reads: u64 = 0;
-    while reads < MAX_READS {
-        let n = io::read_full(STDIN_FILENO, &mut buffer);
+    for _ in 0..MAX_READS {
+        text.clear();
+        let n = input.by_ref().take(PART).read_to_end(&mut text)?;
         if n == 0 {
-            say_agreed(run.agreed);
-            return;
+            return say_agreed(&rt, run.agreed);
         }
-        run = read_text(run, &buffer[..n]);
+        run = read_text(&rt, run, &text)?;
         if !run.goes_on {
-            return;
+            return Ok(());
         }
-        reads += 1;
     }
-    io::write_all(STDOUT_FILENO, b"input too long\n");
+    println!(rt; "input too long")
 }

@@ -4,7 +4,7 @@ use records::{Call, Record};
 use simple_map::SimpleMap;
 use stage2::Policy;
 
-#[derive(Drop)]
+#[derive(Clone, Copy)]
 pub struct State {
     pub policy: Policy,
     pub cores: [Core; 8],
@@ -13,7 +13,7 @@ pub struct State {
 }
 
 // A record with its answer compared, and the state then.
-#[derive(Drop)]
+#[derive(Clone, Copy)]
 pub struct Taken {
     pub compared: Record,
     pub state: State,

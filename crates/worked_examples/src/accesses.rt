@@ -2,22 +2,23 @@
 use super::print::{all_given, columns, end_row, number};
 use exceptions::Core;
 use memory_access::{Decoded, Fipa, MemoryAccess};
+use std::io;
 
-fn decode(iss: u32, fipa: u64, far: u64) {
-    number(iss as u64);
-    number(fipa);
-    number(far);
-    all_given();
+fn decode(rt: &impl Print, iss: u32, fipa: u64, far: u64) -> io::Result<()> {
+    number(rt, iss as u64)?;
+    number(rt, fipa)?;
+    number(rt, far)?;
+    all_given(rt)?;
     let decoded = MemoryAccess::decode(iss, Fipa(fipa), far);
     let values = decoded.values();
-    number(decoded.number());
-    number(values[0]);
-    number(values[1]);
-    number(values[2]);
-    number(values[3]);
-    number(values[4]);
-    number(values[5]);
-    end_row();
+    number(rt, decoded.number())?;
+    number(rt, values[0])?;
+    number(rt, values[1])?;
+    number(rt, values[2])?;
+    number(rt, values[3])?;
+    number(rt, values[4])?;
+    number(rt, values[5])?;
+    end_row(rt)
 }
 
 fn loaded(decoded: Decoded, value: u64) -> u64 {
@@ -27,12 +28,12 @@ fn loaded(decoded: Decoded, value: u64) -> u64 {
     }
 }
 
-fn load(iss: u32, value: u64) {
-    number(iss as u64);
-    number(value);
-    all_given();
-    number(loaded(MemoryAccess::decode(iss, Fipa(0), 0), value));
-    end_row();
+fn load(rt: &impl Print, iss: u32, value: u64) -> io::Result<()> {
+    number(rt, iss as u64)?;
+    number(rt, value)?;
+    all_given(rt)?;
+    number(rt, loaded(MemoryAccess::decode(iss, Fipa(0), 0), value))?;
+    end_row(rt)
 }
 
 // What a store puts into memory from a core whose x0 to x30 hold one value.
@@ -48,30 +49,30 @@ fn stored(decoded: Decoded, value: u64) -> u64 {
     }
 }
 
-fn store(iss: u32, value: u64) {
-    number(iss as u64);
-    number(value);
-    all_given();
-    number(stored(MemoryAccess::decode(iss, Fipa(0), 0), value));
-    end_row();
+fn store(rt: &impl Print, iss: u32, value: u64) -> io::Result<()> {
+    number(rt, iss as u64)?;
+    number(rt, value)?;
+    all_given(rt)?;
+    number(rt, stored(MemoryAccess::decode(iss, Fipa(0), 0), value))?;
+    end_row(rt)
 }
 
-pub(crate) fn rows() {
-    columns(b"decode: ISS FIPA FAR | answer IPA bits WnR Rt SSE SF\n");
+pub(crate) fn rows(rt: &impl Print) -> io::Result<()> {
+    columns(rt, "decode: ISS FIPA FAR | answer IPA bits WnR Rt SSE SF")?;
     // Bench: a 64-bit load into x5, SF set, SSE clear; 19; the IPA.
-    decode(0x01C5_8000, 0xF000, 0x0ABC_D010);
-    decode(0x00C5_8000, 0xF000, 0x0ABC_D010);
+    decode(rt, 0x01C5_8000, 0xF000, 0x0ABC_D010)?;
+    decode(rt, 0x00C5_8000, 0xF000, 0x0ABC_D010)?;
     // A page number of 53 bits, of which 52 count.
-    decode(0x0167_0000, 0x10_0000_0000_9000, 0xFFFF);
-    decode(0xFEFF_FFFF, 0, 0);
-    columns(b"load: ISS value | register\n");
+    decode(rt, 0x0167_0000, 0x10_0000_0000_9000, 0xFFFF)?;
+    decode(rt, 0xFEFF_FFFF, 0, 0)?;
+    columns(rt, "load: ISS value | register")?;
     // Bench: a byte with SSE set, SF set and clear; 64 bits with SF clear.
-    load(0x0127_8000, 0x80);
-    load(0x0127_0000, 0x80);
-    load(0x01C7_0000, 0x1_0000_0002);
-    load(0x0167_0000, 0x8001);
-    columns(b"store: ISS x0..x30 | value\n");
+    load(rt, 0x0127_8000, 0x80)?;
+    load(rt, 0x0127_0000, 0x80)?;
+    load(rt, 0x01C7_0000, 0x1_0000_0002)?;
+    load(rt, 0x0167_0000, 0x8001)?;
+    columns(rt, "store: ISS x0..x30 | value")?;
     // Bench: a store from Rt 31, of 64 bits; then one of 16 bits from x7.
-    store(0x01DF_8040, 0x1234_5678_9ABC_DEF0);
-    store(0x0147_0040, 0x1234_5678);
+    store(rt, 0x01DF_8040, 0x1234_5678_9ABC_DEF0)?;
+    store(rt, 0x0147_0040, 0x1234_5678)
 }

@@ -3,6 +3,8 @@
 
 #![tactic(auto)]
 
+use std::io;
+
 mod accesses;
 mod maps;
 mod page;
@@ -11,11 +13,11 @@ mod print;
 mod ranges;
 mod registers;
 
-fn main() {
-    accesses::rows();
-    ranges::rows();
-    policies::rows();
-    maps::rows();
-    registers::rows();
-    page::rows();
+fn main(rt: HostRuntime) -> io::Result<()> {
+    accesses::rows(&rt)?;
+    ranges::rows(&rt)?;
+    policies::rows(&rt)?;
+    maps::rows(&rt)?;
+    registers::rows(&rt)?;
+    page::rows(&rt)
 }

@@ -1,23 +1,24 @@
 // Ranges, rounding to pages, and the registry of regions.
 use super::print::{all_given, columns, end_row, number};
 use stage2_range::{MemoryAccessRegion, Registered};
+use std::io;
 
-fn validate(base: u64, size: u64) {
-    number(base);
-    number(size);
-    all_given();
-    number(stage2_range::validate_range(base, size).number());
-    end_row();
+fn validate(rt: &impl Print, base: u64, size: u64) -> io::Result<()> {
+    number(rt, base)?;
+    number(rt, size)?;
+    all_given(rt)?;
+    number(rt, stage2_range::validate_range(base, size).number())?;
+    end_row(rt)
 }
 
-fn align(address: u64) {
-    number(address);
-    all_given();
+fn align(rt: &impl Print, address: u64) -> io::Result<()> {
+    number(rt, address)?;
+    all_given(rt)?;
     let up = stage2_range::align_up_to_page(address);
-    number(stage2_range::align_down_to_page(address));
-    number(up.number());
-    number(up.value());
-    end_row();
+    number(rt, stage2_range::align_down_to_page(address))?;
+    number(rt, up.number())?;
+    number(rt, up.value())?;
+    end_row(rt)
 }
 
 // A page whose loads are handled.
@@ -35,30 +36,30 @@ fn third(base: u64) -> Registered {
     stage2_range::register(regions, two.region_count, page(base))
 }
 
-fn register(base: u64) {
-    number(base);
-    all_given();
+fn register(rt: &impl Print, base: u64) -> io::Result<()> {
+    number(rt, base)?;
+    all_given(rt)?;
     let registered = third(base);
     let answer = registered.answer;
     let regions = registered.regions;
     let first = regions[0];
-    number(answer.number());
-    number(first.base_ipa);
-    number(registered.region_count);
-    end_row();
+    number(rt, answer.number())?;
+    number(rt, first.base_ipa)?;
+    number(rt, registered.region_count)?;
+    end_row(rt)
 }
 
-pub(crate) fn rows() {
-    columns(b"range: base size | answer\n");
+pub(crate) fn rows(rt: &impl Print) -> io::Result<()> {
+    columns(rt, "range: base size | answer")?;
     // Bench: base 1, size 0; the last range that fits, and the first that does not.
-    validate(1, 0);
-    validate(0xFFFF_FFFF_FFFF_E000, 0x1000);
-    validate(0xFFFF_FFFF_FFFF_F000, 0x1000);
-    validate(0x1000, 0x1800);
-    columns(b"align: address | down answer up\n");
-    align(0x1001);
-    align(0xFFFF_FFFF_FFFF_F001);
-    columns(b"third region: base | answer first_base held\n");
-    register(0);
-    register(0x1000);
+    validate(rt, 1, 0)?;
+    validate(rt, 0xFFFF_FFFF_FFFF_E000, 0x1000)?;
+    validate(rt, 0xFFFF_FFFF_FFFF_F000, 0x1000)?;
+    validate(rt, 0x1000, 0x1800)?;
+    columns(rt, "align: address | down answer up")?;
+    align(rt, 0x1001)?;
+    align(rt, 0xFFFF_FFFF_FFFF_F001)?;
+    columns(rt, "third region: base | answer first_base held")?;
+    register(rt, 0)?;
+    register(rt, 0x1000)
 }

@@ -4,47 +4,50 @@
 
 #![tactic(auto)]
 
-use io::{print_decimal, read_full, write_all};
-use libc::{STDIN_FILENO, STDOUT_FILENO};
 use memory_import::import_memory;
 use stage2::{Built, Policy};
 use stage2_range::Stage2Range;
+use std::io;
+use std::io::Read;
 
-fn number(value: u64, after: u8) {
-    print_decimal(STDOUT_FILENO, value);
-    write_all(STDOUT_FILENO, &[after]);
+// What is read of the input, with zeros after a shorter one.
+const BLOB_LENGTH: usize = 1024;
+
+fn number(rt: &impl Print, value: u64, after: char) -> io::Result<()> {
+    print!(rt; "{value}{after}")
 }
 
-fn row(range: Stage2Range) {
-    number(range.base_ipa, b' ');
-    number(range.size, b' ');
-    number(range.end_ipa, b' ');
-    number(range.attributes, b'\n');
+fn row(rt: &impl Print, range: Stage2Range) -> io::Result<()> {
+    number(rt, range.base_ipa, ' ')?;
+    number(rt, range.size, ' ')?;
+    number(rt, range.end_ipa, ' ')?;
+    number(rt, range.attributes, '\n')
 }
 
-fn rows(built: Built) {
+fn rows(rt: &impl Print, built: Built) -> io::Result<()> {
     let answer = built.answer;
     let policy = built.policy;
     let allowed = policy.allowed;
-    number(answer.number(), b' ');
-    number(policy.allowed_count, b'\n');
-    row(allowed[0]);
-    row(allowed[1]);
-    row(allowed[2]);
+    number(rt, answer.number(), ' ')?;
+    number(rt, policy.allowed_count, '\n')?;
+    row(rt, allowed[0])?;
+    row(rt, allowed[1])?;
+    row(rt, allowed[2])
 }
 
-fn main() {
-    let mut blob = [0u8; 1024];
-    read_full(STDIN_FILENO, &mut blob);
+fn main(rt: HostRuntime) -> io::Result<()> {
+    let mut blob = Vec::with_capacity(rt.alloc(), BLOB_LENGTH)?;
+    rt.reader().take(BLOB_LENGTH as u64).read_to_end(&mut blob)?;
+    blob.resize(BLOB_LENGTH, 0)?;
     let built = import_memory(Policy::new(), &blob, 2045);
     let policy = built.policy;
-    rows(built);
+    rows(&rt, built)?;
     // A second time the first pair shares its bytes with a range: 6, and the ranges as they were.
-    rows(import_memory(policy, &blob, 1));
+    rows(&rt, import_memory(policy, &blob, 1))?;
     // The root's #address-cells: 3 is 22, and a count that is 3 bytes long, with a byte of padding, 21.
     blob[95] = 3;
-    rows(import_memory(policy, &blob, 1));
+    rows(&rt, import_memory(policy, &blob, 1))?;
     blob[95] = 0;
     blob[87] = 3;
-    rows(import_memory(policy, &blob, 1));
+    rows(&rt, import_memory(policy, &blob, 1))
 }

@@ -3,43 +3,41 @@
 
 #![tactic(auto)]
 
-use io::{print_decimal, write_all};
-use libc::STDOUT_FILENO;
 use stage2::{Built, Policy};
 use stage2_range::{MemoryAccessRegion, Stage2Range};
+use std::io;
 
 const PAGE: u64 = 4096;
 
-fn number(value: u64, after: u8) {
-    print_decimal(STDOUT_FILENO, value);
-    write_all(STDOUT_FILENO, &[after]);
+fn number(rt: &impl Print, value: u64, after: char) -> io::Result<()> {
+    print!(rt; "{value}{after}")
 }
 
-fn attributes(range: Stage2Range) {
-    number(range.attributes, b' ');
+fn attributes(rt: &impl Print, range: Stage2Range) -> io::Result<()> {
+    number(rt, range.attributes, ' ')
 }
 
-fn read_handler(region: MemoryAccessRegion, after: u8) {
+fn read_handler(rt: &impl Print, region: MemoryAccessRegion, after: char) -> io::Result<()> {
     let handler = region.handler;
     let read = handler.read;
-    number(read.number(), after);
+    number(rt, read.number(), after)
 }
 
-fn row(built: Built) -> Policy {
+fn row(rt: &impl Print, built: Built) -> io::Result<Policy> {
     let answer = built.answer;
     let policy = built.policy;
     let allowed = policy.allowed;
     let regions = policy.regions;
-    number(answer.number(), b' ');
-    number(policy.allowed_count, b' ');
-    number(policy.region_count, b' ');
-    attributes(allowed[0]);
-    attributes(allowed[1]);
-    attributes(allowed[2]);
-    read_handler(regions[0], b' ');
-    read_handler(regions[1], b' ');
-    read_handler(regions[2], b'\n');
-    policy
+    number(rt, answer.number(), ' ')?;
+    number(rt, policy.allowed_count, ' ')?;
+    number(rt, policy.region_count, ' ')?;
+    attributes(rt, allowed[0])?;
+    attributes(rt, allowed[1])?;
+    attributes(rt, allowed[2])?;
+    read_handler(rt, regions[0], ' ')?;
+    read_handler(rt, regions[1], ' ')?;
+    read_handler(rt, regions[2], '\n')?;
+    Ok(policy)
 }
 
 // One range twice, with other attributes, and twice a region with its base and size, with other handlers; the first range's end is 0.
@@ -59,28 +57,30 @@ fn twice(allowed_count: u64, region_count: u64) -> Policy {
 }
 
 // 1 to 4, whatever is held; then 23: by base with another size, and of what stands past a count.
-fn refusals() {
+fn refusals(rt: &impl Print) -> io::Result<()> {
     let policy = twice(2, 2);
-    row(policy.release_range(1, 0));
-    row(policy.release_range(PAGE, 0));
-    row(policy.release_range(PAGE, 5));
-    row(policy.release_range(0xFFFF_FFFF_FFFF_F000, PAGE));
-    row(policy.release_range(PAGE, 2 * PAGE));
-    row(policy.release_range(2 * PAGE, PAGE));
+    row(rt, policy.release_range(1, 0))?;
+    row(rt, policy.release_range(PAGE, 0))?;
+    row(rt, policy.release_range(PAGE, 5))?;
+    row(rt, policy.release_range(0xFFFF_FFFF_FFFF_F000, PAGE))?;
+    row(rt, policy.release_range(PAGE, 2 * PAGE))?;
+    row(rt, policy.release_range(2 * PAGE, PAGE))?;
+    Ok(())
 }
 
-fn main() {
-    refusals();
+fn main(rt: HostRuntime) -> io::Result<()> {
+    refusals(&rt)?;
     // The first of two ranges, the other, then the first of two regions, the other, and then nothing.
-    let policy = row(twice(2, 2).release_range(PAGE, PAGE));
-    let policy = row(policy.release_range(PAGE, PAGE));
-    let policy = row(policy.release_range(PAGE, PAGE));
-    let policy = row(policy.release_range(PAGE, PAGE));
-    row(policy.release_range(PAGE, PAGE));
+    let policy = row(&rt, twice(2, 2).release_range(PAGE, PAGE))?;
+    let policy = row(&rt, policy.release_range(PAGE, PAGE))?;
+    let policy = row(&rt, policy.release_range(PAGE, PAGE))?;
+    let policy = row(&rt, policy.release_range(PAGE, PAGE))?;
+    row(&rt, policy.release_range(PAGE, PAGE))?;
     // Counts of 40 and 20 read as 32 and 16: they become 31 and 15, and the other one stays.
-    row(twice(40, 20).release_range(PAGE, PAGE));
-    row(twice(0, 20).release_range(PAGE, PAGE));
+    row(&rt, twice(40, 20).release_range(PAGE, PAGE))?;
+    row(&rt, twice(0, 20).release_range(PAGE, PAGE))?;
     // Between two others: those after it move down, and the last of them stands twice.
-    row(twice(3, 3).release_range(PAGE, PAGE));
-    row(twice(0, 3).release_range(PAGE, PAGE));
+    row(&rt, twice(3, 3).release_range(PAGE, PAGE))?;
+    row(&rt, twice(0, 3).release_range(PAGE, PAGE))?;
+    Ok(())
 }

@@ -3,13 +3,15 @@
 
 #![tactic(auto)]
 
+use std::io;
+
 mod print;
 mod replies;
 mod traps;
 
-fn main() {
-    traps::rows();
-    traps::handlers();
-    traps::calls();
-    replies::rows();
+fn main(rt: HostRuntime) -> io::Result<()> {
+    traps::rows(&rt)?;
+    traps::handlers(&rt)?;
+    traps::calls(&rt)?;
+    replies::rows(&rt)
 }

@@ -1,21 +1,20 @@
 // A table of the output: a line that names its columns, and a line for each row, the numbers given and, after a bar, those found.
-use libc::STDOUT_FILENO;
+use std::io;
 
-pub(crate) fn columns(text: &[u8]) {
-    io::write_all(STDOUT_FILENO, text);
+pub(crate) fn columns(rt: &impl Print, text: &str) -> io::Result<()> {
+    println!(rt; "{text}")
 }
 
 // A number of the row.
-pub(crate) fn number(number: u64) {
-    io::write_all(STDOUT_FILENO, b" 0x");
-    io::print_hex(STDOUT_FILENO, number, 1);
+pub(crate) fn number(rt: &impl Print, number: u64) -> io::Result<()> {
+    print!(rt; " {number:#x}")
 }
 
 // What follows was found.
-pub(crate) fn all_given() {
-    io::write_all(STDOUT_FILENO, b" |");
+pub(crate) fn all_given(rt: &impl Print) -> io::Result<()> {
+    print!(rt; " |")
 }
 
-pub(crate) fn end_row() {
-    io::write_all(STDOUT_FILENO, b"\n");
+pub(crate) fn end_row(rt: &impl Print) -> io::Result<()> {
+    println!(rt)
 }
