@@ -55,6 +55,7 @@ pub fn get_spsr(cores: &[u8; CORES_SIZE], core: u64) -> u64
 }
 
 // The value of a guest register.
+#[tactic(auto, using(crate::proofs::InPlace::core_gpr), unfolding(exceptions::specs::Registers::read_gpr))]
 pub fn get_gpr(cores: &[u8; CORES_SIZE], core: u64, index: usize) -> GprRead
     ensures { result ≡ read_gpr (held_core cores.now core) index }
 {
@@ -130,6 +131,7 @@ pub fn put_advanced(cores: &mut [u8; CORES_SIZE], core: u64)
 }
 
 // Writes a guest register.
+#[tactic(auto, using(crate::proofs::InPlace::gpr_put, crate::proofs::InPlace::gpr_kept), unfolding(exceptions::specs::Registers::write_gpr))]
 pub fn put_gpr(cores: &mut [u8; CORES_SIZE], core: u64, index: usize, value: u64) -> GprWrite
     ensures { (result ≡ (write_gpr (held_core cores.old core) index value).answer)
         × (cores.new
@@ -212,6 +214,7 @@ pub fn save(cores: &mut [u8; CORES_SIZE], core: u64, registers: &[u8; REGISTERS_
 }
 
 // The value of a guest register: refusals 10, 17.
+#[tactic(auto, unfolding(crate::specs::Calls::read_call))]
 pub fn read_gpr(cores: &[u8; CORES_SIZE], core: u64, index: u64, res: &mut [u8; ONE_WORD]) -> u64
     ensures { Leaves (read_call cores.now core index) result cores.now res.new }
 {

@@ -50,6 +50,7 @@ pub const TRAP_RESULT_SIZE: usize = 8 * (HINT_WORD + 1);
 pub const WAIT_CODES: u64 = 5;
 
 // What a core waits for, by its code.
+#[tactic(auto, using(crate::proofs::Records::unknown_wait), unfolding(crate::specs::Layout::wait_by_code))]
 pub fn wait_of(code: u64) -> Wait
     ensures { result ≡ wait_by_code code }
 {
@@ -96,6 +97,7 @@ fn get_x(bytes: &[u8], from: usize) -> [u64; 31]
 }
 
 // The core, and a fresh one where there is no core of that number.
+#[tactic(auto, using(crate::proofs::Records::no_core, crate::proofs::Records::core_of_lem))]
 pub fn get_core(cores: &[u8; CORES_SIZE], core: u64) -> Core
     ensures { result ≡ held_core cores.now core }
 {
@@ -106,6 +108,7 @@ pub fn get_core(cores: &[u8; CORES_SIZE], core: u64) -> Core
 }
 
 // One of the eight cores.
+#[tactic(auto, unfolding(crate::specs::Layout::core_at))]
 fn get_one(cores: &[u8; CORES_SIZE], core: usize) -> Core
     requires { core < 8 }
     ensures { result ≡ core_at cores.now core }
@@ -180,6 +183,7 @@ fn put_one(cores: &mut [u8; CORES_SIZE], core: usize, value: Core)
 }
 
 // The counter of the filtered MMIO page.
+#[tactic(auto, unfolding(crate::specs::Layout::counter_at))]
 pub fn get_counter(cores: &[u8; CORES_SIZE]) -> u64
     ensures { result ≡ counter_at cores.now }
 {
@@ -187,6 +191,7 @@ pub fn get_counter(cores: &[u8; CORES_SIZE]) -> u64
 }
 
 // Stores the counter.
+#[tactic(auto, unfolding(crate::specs::Layout::with_counter))]
 pub fn put_counter(cores: &mut [u8; CORES_SIZE], counter: u64)
     ensures { cores.new ≡ with_counter cores.old counter }
 {

@@ -66,6 +66,7 @@ fn find_free(map: &[u8; MAP_SIZE]) -> usize
 }
 
 // Stores a place of the suspend map.
+#[tactic(auto, unfolding(crate::specs::Layout::with_place))]
 fn put_place(map: &mut [u8; MAP_SIZE], place: usize, value: Place)
     requires { place < 8 }
     ensures { map.new ≡ with_place map.old place value }
@@ -115,6 +116,7 @@ fn value_at(map: &[u8; MAP_SIZE], place: usize) -> Lookup
 }
 
 // The value of the first entry with the key.
+#[tactic(auto, using(crate::proofs::InPlace::entry_at))]
 fn get_entry(map: &[u8; MAP_SIZE], key: u64) -> Lookup
     ensures { result ≡ get_item (map_at map.now) key }
 {
@@ -168,6 +170,7 @@ fn put_lookup(res: &mut [u8; THREE_WORDS], lookup: Lookup)
 }
 
 // Holds an entry under a key, in place of the key's last one: refusal 16.
+#[tactic(auto, unfolding(crate::specs::Calls::insert_call))]
 pub fn insert(map: &mut [u8; MAP_SIZE], key: u64, entry_point: u64, context_id: u64) -> u64
     ensures { Leaves (insert_call map.old key entry_point context_id) result map.new [] }
 {
@@ -179,6 +182,7 @@ pub fn insert(map: &mut [u8; MAP_SIZE], key: u64, entry_point: u64, context_id: 
 }
 
 // The entry of a key: whether there is one, its entry point and its context id.
+#[tactic(auto, unfolding(crate::specs::Calls::get_call))]
 pub fn get(map: &[u8; MAP_SIZE], key: u64, res: &mut [u8; THREE_WORDS]) -> u64
     ensures { Leaves (get_call map.now key) result map.now res.new }
 {
@@ -187,6 +191,7 @@ pub fn get(map: &[u8; MAP_SIZE], key: u64, res: &mut [u8; THREE_WORDS]) -> u64
 }
 
 // The same, and the entry is held no more.
+#[tactic(auto, unfolding(crate::specs::Calls::remove_call))]
 pub fn remove(map: &mut [u8; MAP_SIZE], key: u64, res: &mut [u8; THREE_WORDS]) -> u64
     ensures { Leaves (remove_call map.old key) result map.new res.new }
 {

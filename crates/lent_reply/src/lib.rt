@@ -55,6 +55,7 @@ fn put_values(
 
 // Stores a result from x0 on, by the SMCCC's convention. The counts are constants, so that no loop is left, and eighteen values go in two parts, of which
 // none is long enough for a call of `memmove`.
+#[tactic(auto, unfolding(hvc_response::specs::Response::response))]
 fn modify_register_state(
     cores: &mut [u8; CORES_SIZE],
     at: usize,

@@ -52,6 +52,7 @@ fn forward_call(
 }
 
 // What the access that a data abort describes comes to.
+#[tactic(auto, using(data_abort::proofs::Laws::access_tried, data_abort::proofs::Laws::nothing_tried))]
 fn try_memory_access_handler(
     policy: &[u8; POLICY_SIZE],
     cores: &[u8; CORES_SIZE],
@@ -133,6 +134,7 @@ fn handle_data_abort(
 }
 
 // The trap of a core that does not wait, by its exception class.
+#[tactic(auto, unfolding(hypervisor::specs::Trap::by_class))]
 fn dispatch(
     policy: &[u8; POLICY_SIZE],
     cores: &mut [u8; CORES_SIZE],

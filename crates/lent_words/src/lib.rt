@@ -45,6 +45,7 @@ fn get_eight(bytes: &[u8], at: usize) -> u64
 }
 
 // The word at a place.
+#[tactic(auto, using(crate::proofs::Words::word_read, crate::proofs::Words::word_missing))]
 pub fn get_word(bytes: &[u8], place: usize) -> u64
     ensures { result ≡ word_at bytes.now place }
 {
@@ -70,6 +71,7 @@ fn put_eight(bytes: &mut [u8], at: usize, value: u64)
 }
 
 // Stores a word at a place.
+#[tactic(auto, using(crate::proofs::Words::word_stored, crate::proofs::Words::word_kept))]
 pub fn put_word(bytes: &mut [u8], place: usize, value: u64)
     ensures { bytes.new ≡ with_word bytes.old place value }
 {
@@ -94,6 +96,7 @@ fn read_code(word: u64, limit: u64) -> u64
 }
 
 // The word to write for a code: one that reads as the code already stays.
+#[tactic(auto, unfolding(crate::specs::Words::kept_code))]
 pub fn kept_code(old: u64, limit: u64, code: u64) -> u64
     ensures { result ≡ kept_code limit old code }
 {

@@ -79,6 +79,7 @@ impl Insertion {
 }
 
 impl SimpleMap {
+    #[tactic(auto, unfolding(crate::specs::Map::empty_map))]
     pub fn new() -> Self
         ensures { result ≡ empty_map }
     {
@@ -87,6 +88,7 @@ impl SimpleMap {
     }
 
     // The value of the first item with the key. (RITM's `get_mut` lends it.)
+    #[tactic(auto, using(crate::proofs::Laws::get_at))]
     pub fn get(self, key: u64) -> Lookup
         ensures { result ≡ get_item self key }
     {
@@ -122,6 +124,7 @@ impl SimpleMap {
     }
 
     // Removes the first item with the key, and answers its value.
+    #[tactic(auto, unfolding(crate::specs::Map::remove_item))]
     pub fn remove(self, key: u64) -> Removed
         ensures { result ≡ remove_item self key }
     {
@@ -151,6 +154,7 @@ enum Sought {
     Key(u64),
 }
 
+#[tactic(auto, unfolding(crate::specs::Map::is_free, crate::specs::Map::holds_key))]
 fn place_fits(place: Place, sought: Sought) -> bool
     ensures { result ≡ place_fits sought place }
 {
@@ -167,6 +171,7 @@ fn place_fits(place: Place, sought: Sought) -> bool
     }
 }
 
+#[tactic(auto, unfolding(crate::specs::Map::value_of))]
 fn value_of(place: Place) -> Lookup
     ensures { result ≡ value_of place }
 {
@@ -219,6 +224,7 @@ fn store(items: [Place; 8], at: usize, place: Place) -> [Place; 8]
     }
 }
 
+#[tactic(auto, using(crate::proofs::Laws::without_at))]
 fn without_key(items: [Place; 8], key: u64) -> [Place; 8]
     ensures { result ≡ without key items }
 {

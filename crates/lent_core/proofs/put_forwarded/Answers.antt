@@ -1,12 +1,8 @@
 use native.Mathlib.Omega.{arith}
-use mathlib.Core.Path.{refl}
 use Rattle.lent_words.proofs.Words.{stored_next, stored_done}
 use Rattle.lent_cores.proofs.Results.{result-written}
 use Rattle.lent_core.proofs.InPlace.{handed_out, length_values}
 use Rattle.lent_core.proofs.put_forwarded.Goals as goal
-
-pub loop-i-init : goal.loop-i-init
-loop-i-init c = record { within = omega arith; done = refl }
 
 pub loop-i-preserved : goal.loop-i-preserved
 loop-i-preserved c =

@@ -2,7 +2,7 @@
 use mathlib.Core.Path.{refl}
 use mathlib.Core.List.{[], ◌∷◌}
 use native.Mathlib.Omega.{arith}
-use borrow.Author.Tests.{lt-ltb, le-ltb}
+use borrow.Author.Tests.{le-ltb}
 use Rattle.exceptions.specs.Registers.{with_return}
 use Rattle.lent_cores.specs.Layout.{core_at, elr_word, spsr_word, elr_el1_word, spsr_el1_word, far_el1_word, esr_el1_word}
 use Rattle.lent_core.proofs.InPlace.{core-put}
@@ -26,6 +26,3 @@ returns-then-core-lt8 c =
     (λ one. (elr_word, a.elr) ∷ (spsr_word, a.spsr) ∷ (elr_el1_word, el1.elr) ∷ (spsr_el1_word, el1.spsr) ∷ (far_el1_word, el1.far) ∷ (esr_el1_word, el1.esr) ∷ [])
     (λ one. with_return one a.elr a.spsr el1)
     c.are_bytes.ensures (omega arith) refl (omega arith))
-
-pub returns-else-core-lt8 : goal.returns-else-core-lt8
-returns-else-core-lt8 c = rw (lt-ltb 7 c.args.core (omega arith))

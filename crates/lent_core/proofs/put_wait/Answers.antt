@@ -3,7 +3,7 @@ use Prim.Native.Nat.{◌+◌, ◌*◌}
 use mathlib.Core.Path.{refl}
 use mathlib.Core.List.{[], ◌∷◌}
 use native.Mathlib.Omega.{arith}
-use borrow.Author.Tests.{lt-ltb, le-ltb}
+use borrow.Author.Tests.{le-ltb}
 use Rattle.lent_words.specs.Words.{word_at, kept_code}
 use Rattle.forwarded_call.specs.ForwardedCall.{with_wait}
 use Rattle.lent_cores.specs.Layout.{wait_number, core_at, core_length, wait_word, wait_codes}
@@ -25,6 +25,3 @@ returns-then-core-lt8 c = let a = c.args in
     (λ one. (wait_word, kept_code (length wait_codes) (word_at a.cores.now (core_length * a.core + wait_word)) (wait_number a.wait)) ∷ [])
     (λ one. with_wait one a.wait)
     c.are_bytes.ensures (omega arith) refl (omega arith))
-
-pub returns-else-core-lt8 : goal.returns-else-core-lt8
-returns-else-core-lt8 c = rw (lt-ltb 7 c.args.core (omega arith))

@@ -1,18 +1,12 @@
 use native.Mathlib.Omega.{arith}
 use borrow.Author.Rules.{rules}
-use mathlib.Core.Path.{◌≡◌, refl}
+use mathlib.Core.Path.{◌≡◌}
 use lib.ListN.{length}
 use Rattle.lists.proofs.Laws.{length_mapped}
 use Rattle.core_answers.specs.Answers.{forwarded_length}
 use Rattle.lent_words.proofs.Words.{stored_next, stored_done}
 use Rattle.lent_cores.proofs.Results.{result-written}
 use Rattle.lent_cores.proofs.put_trap_result.Goals as goal
-
-pub loop-i-init : goal.loop-i-init
-loop-i-init c = record { within = omega arith; done = refl }
-
-pub bounds-values-i : goal.bounds-values-i
-bounds-values-i c = let long : length c.args.trap.values ≡ forwarded_length = search (length_mapped, rules) in omega arith
 
 pub loop-i-preserved : goal.loop-i-preserved
 loop-i-preserved c =

@@ -1,13 +1,6 @@
 use native.Mathlib.Omega.{arith}
-use Rattle.lent_words.proofs.Words.{read_next, read_done}
-use mathlib.Core.Path.{refl}
+use Rattle.lent_words.proofs.Words.{read_next}
 use Rattle.lent_reply.proofs.get_values.Goals as goal
-
-pub loop-i-init : goal.loop-i-init
-loop-i-init c = record { within = omega arith; long = refl; done = refl }
 
 pub loop-i-preserved : goal.loop-i-preserved
 loop-i-preserved c = read_next c.loop-i.invariant (omega arith) _ c.get_word.ensures
-
-pub returns : goal.returns
-returns c = read_done c.loop-i.invariant (omega arith)

@@ -1,21 +1,17 @@
 use mathlib.Core.Path.{◌≡◌}
+use borrow.Author.Rules.{rules}
 use borrow.Author.Tests.{lt-ltb, le-ltb}
 use lib.ListN.{length}
 use Rattle.lists.proofs.Laws.{length_mapped}
 use Rattle.simple_map.proofs.Laws.{insert_at_lem}
-use borrow.Author.Rules.{rules}
 use Rattle.simple_map.proofs.SimpleMap.insert.Goals as goal
-use Rattle.simple_map.proofs.SimpleMap.insert.Goals.{Start}
-
-items-length : (c : Start) → length c.args.self.items ≡ 8
-items-length c = search (length_mapped, rules)
 
 pub returns-then-at-lt8 : goal.returns-then-at-lt8
 returns-then-at-lt8 c =
-    let k = items-length c.before.before.before.before.before in
+    let places : length c.args.self.items ≡ 8 = search (length_mapped, rules) in
     rw (
       insert_at_lem,
-      k,
+      places,
       ← c.without_key-rest.ensures,
       ← c.position-at.ensures,
       lt-ltb _ _ c.if-at-lt8.true,
@@ -24,5 +20,5 @@ returns-then-at-lt8 c =
 
 pub returns-else-at-lt8 : goal.returns-else-at-lt8
 returns-else-at-lt8 c =
-    let k = items-length c.before.before.before.before in
-    rw (insert_at_lem, k, ← c.without_key-rest.ensures, ← c.position-at.ensures, le-ltb _ _ c.if-at-lt8.false)
+    let places : length c.args.self.items ≡ 8 = search (length_mapped, rules) in
+    rw (insert_at_lem, places, ← c.without_key-rest.ensures, ← c.position-at.ensures, le-ltb _ _ c.if-at-lt8.false)

@@ -1,9 +1,0 @@
-use borrow.Author.Tests.{lt-ltb, le-ltb}
-use native.Mathlib.Omega.{arith}
-use Rattle.lent_cores.proofs.put_core.Goals as goal
-
-pub returns-then-core-lt8 : goal.returns-then-core-lt8
-returns-then-core-lt8 c = rw (le-ltb 7 c.args.core (omega arith)) c.put_one.ensures
-
-pub returns-else-core-lt8 : goal.returns-else-core-lt8
-returns-else-core-lt8 c = rw (lt-ltb 7 c.args.core (omega arith))
