@@ -268,6 +268,9 @@ module _ {s : List ℕ} {i n : ℕ} {v : Bool} (inv : EntriesLeft s i n v) where
   pub entry_here : 0 < n → zero_entry s i ≡ true → true ≡ v
   entry_here h e = rw (entries_first s i n h, e) at inv.left
 
+  pub entry-later : 0 < n → zero_entry s i ≡ false → EntriesLeft s (i + 16) (n - 1) v
+  entry-later h e = let w = inv.within in record { within = omega arith; left = rw (entries_first s i n h, e) at inv.left }
+
   pub entry_done : n ≤ 0 → false ≡ v
   entry_done h = rw (entries_none s i n h) at inv.left
 

@@ -52,10 +52,10 @@ pub ranges_index_begins : (policy : List ℕ) (fits : Stage2Range → Bool)
 unfolding policy_at held
 ranges_index_begins policy fits = record { within = omega arith; left = omega arith }
 
-pub regions_index_begins : (policy : List ℕ) (fits : MemoryAccessRegion → Bool)
+pub index_begins : (policy : List ℕ) (fits : MemoryAccessRegion → Bool)
     → IndexLeft fits (each (region_at policy) 0 16) (min (word_at policy region_count_at) 16) 0 (first_index fits (regions_held (policy_at policy)))
 unfolding policy_at held
-regions_index_begins policy fits = record { within = omega arith; left = omega arith }
+index_begins policy fits = record { within = omega arith; left = omega arith }
 
 -- A search for the place of a region by its base.
 module _ (policy : List ℕ) where

@@ -61,8 +61,11 @@ change_by_all_keeps p [] w = w
 change_by_all_keeps p (c ∷ cs) w = change_by_all_keeps (change_by p c).policy cs (change_by_keeps p c w)
 
 -- and from fresh every policy is well formed
-pub changed_well_formed : (calls : List PolicyChange) → WellFormed (change_by_all fresh_policy calls)
-changed_well_formed calls = change_by_all_keeps fresh_policy calls fresh_well_formed
+pub changed_well_formed : (calls : List PolicyCall) → WellFormed (change_all fresh_policy calls)
+changed_well_formed calls = change_all_keeps fresh_policy calls fresh_well_formed
+
+pub changed_by_well_formed : (calls : List PolicyChange) → WellFormed (change_by_all fresh_policy calls)
+changed_by_well_formed calls = change_by_all_keeps fresh_policy calls fresh_well_formed
 
 -- where two lists of calls are all accepted one after the other, each is
 pub all_parts : (a b : List BuilderCall) (p : Policy) → AllBuilt p (a ++ b) → AllBuilt p a × AllBuilt (build_all p a) b

@@ -7,7 +7,7 @@ use Rattle.stage2.specs.Policy.{fresh_policy}
 use Rattle.stage2.specs.Builds.{WellFormed}
 use Rattle.stage2.proofs.WellFormed.{fresh_well_formed, build_all_keeps}
 use Rattle.memory_import.specs.Changes.{add, release}
-use Rattle.memory_import.proofs.Changes.{change_by_keeps, changed_well_formed, change_by-same}
+use Rattle.memory_import.proofs.Changes.{change_by_keeps, changed_by_well_formed, change_by-same}
 use Rattle.simple_map.specs.Map.{get_item, remove_item, insert_item}
 use Rattle.exceptions.specs.Registers.{core_of, write_gpr}
 use Rattle.hypervisor.specs.Cores.{save_on, reply_on, trap_on}
@@ -87,5 +87,5 @@ run_like (c ∷ cs) s t w w' like =
 -- So from fresh, of what calls left and of what those still held make afresh.
 pub later_same : LaterSame
 later_same cs later s =
-    run_like later _ _ (changed_well_formed cs) (build_all_keeps fresh_policy (still_held cs) fresh_well_formed)
+    run_like later _ _ (changed_by_well_formed cs) (build_all_keeps fresh_policy (still_held cs) fresh_well_formed)
     (record { policies = (from_fresh cs).same_held; all_cores = refl; counters = refl; maps = refl })

@@ -29,7 +29,7 @@ use Rattle.stage2.proofs.Held.{allow_holds, handle_holds, same-held, build_answe
 use Rattle.stage2.proofs.Release.{release_accepted, can_release, by_list, allowed_without, regions-without, ranges-full, regions-full, release_keeps}
 use Rattle.stage2.proofs.Freed.{apart_no_match}
 use Rattle.memory_import.specs.Changes.{AllBuilt, PolicyChange, add, release, change_by, change_by_all, taken_apart}
-use Rattle.memory_import.proofs.Changes.{build-append, all_parts, accepted_apart, change_by-refused, change_by_keeps, changed_well_formed}
+use Rattle.memory_import.proofs.Changes.{build-append, all_parts, accepted_apart, change_by-refused, change_by_keeps, changed_by_well_formed}
 use Rattle.order_independence.specs.Builds.{SamePolicy}
 use Rattle.order_independence.specs.StillHeld.{accepts_change, asks_for, kept_by, held_from, still_held, BuiltAfresh, FromFresh}
 use Rattle.order_independence.proofs.Builds.{built_order}
@@ -311,4 +311,4 @@ from_fresh cs =
 pub release_by_calls : (cs : List PolicyChange) (base size : ℕ)
     → accepts_change (change_by_all fresh_policy cs) (release base size) ≡ any_of (asks_for base size) (still_held cs)
 release_by_calls cs base size =
-    by_calls (change_by_all fresh_policy cs) (still_held cs) base size (changed_well_formed cs) (from_fresh cs)
+    by_calls (change_by_all fresh_policy cs) (still_held cs) base size (changed_by_well_formed cs) (from_fresh cs)

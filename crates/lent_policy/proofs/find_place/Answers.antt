@@ -2,11 +2,11 @@ use native.Mathlib.Omega.{arith}
 use Rattle.lists.proofs.Laws.{index_here, index_later}
 use Rattle.stage2_range.proofs.Ranges.{has_told}
 use Rattle.lent_policy.specs.Layout.{region_at}
-use Rattle.lent_policy.proofs.Search.{region_read, regions_index_begins}
+use Rattle.lent_policy.proofs.Search.{region_read, index_begins}
 use Rattle.lent_policy.proofs.find_place.Goals as goal
 
 pub loop-place-init : goal.loop-place-init
-loop-place-init c = regions_index_begins _ _
+loop-place-init c = index_begins _ _
 
 pub returns-then-has_byte : goal.returns-then-has_byte
 returns-then-has_byte c =

@@ -3,11 +3,11 @@ use borrow.Author.Tests.{le-leb, lt-leb}
 use Rattle.lists.proofs.Laws.{index_here, index_later}
 use Rattle.lent_policy.specs.Layout.{region_at}
 use Rattle.lent_policy.proofs.Records.{region_of_lem}
-use Rattle.lent_policy.proofs.Search.{regions_index_begins}
+use Rattle.lent_policy.proofs.Search.{index_begins}
 use Rattle.lent_policy.proofs.place_by_base.Goals as goal
 
 pub loop-place-init : goal.loop-place-init
-loop-place-init c = regions_index_begins _ _
+loop-place-init c = index_begins _ _
 
 pub returns-then-base_ipa-get_region_base : goal.returns-then-base_ipa-get_region_base
 returns-then-base_ipa-get_region_base c =

@@ -1,12 +1,12 @@
 use native.Mathlib.Omega.{arith}
 use Rattle.lists.proofs.Laws.{index_here, index_later}
 use Rattle.lent_policy.specs.Layout.{region_at}
-use Rattle.lent_policy.proofs.Search.{regions_index_begins}
+use Rattle.lent_policy.proofs.Search.{index_begins}
 use Rattle.lent_release.proofs.Laws.{region_told}
 use Rattle.lent_release.proofs.region_place.Goals as goal
 
 pub loop-place-init : goal.loop-place-init
-loop-place-init c = regions_index_begins _ _
+loop-place-init c = index_begins _ _
 
 pub returns-then-is_stored : goal.returns-then-is_stored
 returns-then-is_stored c =
