@@ -100,6 +100,9 @@ module _ (b : List ℕ) (i : ℕ) (call : GuestCall) where
   pub value-first : get_or handed_out.values 0 0 ≡ call.function_id
   value-first = value_at_lem 0 count_fits.0
 
+  pub values_begin : (k : ℕ) → k ≡ 0 → get_or handed_out.values k 0 ≡ call.function_id
+  values_begin k e = rw e value-first
+
   pub value_within : (k : ℕ) → (k ≡ 0 → ⊥) → k < count → get_or handed_out.values k 0 ≡ cond (ltb 7 i) 0 (word_at b (core_length * i + k))
   value_within zero n h = absurd (n refl)
   value_within (suc k) n h = value_at_lem (suc k) h

@@ -67,6 +67,7 @@ pub fn get_gpr(cores: &[u8; CORES_SIZE], core: u64, index: usize) -> GprRead
 }
 
 // One of the values of a forwarded call: its function identifier, then the registers after x0 that are handed out, and zero past them.
+#[tactic(auto, using(crate::proofs::InPlace::values_begin))]
 fn forwarded_at(cores: &[u8; CORES_SIZE], core: u64, call: GuestCall, index: usize) -> u64
     requires { index < forwarded_length }
     ensures { result ≡ get_or (forwarded_result call (held_core cores.now core).x).values index 0 }

@@ -1,13 +1,7 @@
 use native.Mathlib.Omega.{arith}
-use mathlib.Core.Path.{◌≡◌, sym, ◌∙◌}
-use Rattle.lent_core.proofs.InPlace.{value-first, value_within, value-past}
+use mathlib.Core.Path.{sym, ◌∙◌}
+use Rattle.lent_core.proofs.InPlace.{value_within, value-past}
 use Rattle.lent_core.proofs.forwarded_at.Goals as goal
-
-pub returns-then-index-eq0 : goal.returns-then-index-eq0
-returns-then-index-eq0 c =
-    let a = c.args in
-    let first : a.index ≡ 0 = omega arith in
-    rw first (sym (value-first a.cores.now a.core a.call))
 
 pub returns-then-index-registers_for : goal.returns-then-index-registers_for
 returns-then-index-registers_for c =
