@@ -1,13 +1,16 @@
 -- Laws on ranges. Assumes nothing.
 use Prim.Native.Nat.{ℕ, ◌+◌, ◌-◌, ◌%◌, ◌^◌, ◌≤◌, ◌<◌, min, max}
 use mathlib.Core.Path.{◌≡◌, refl, sym, ◌∙◌, ap}
+use Rattle.std.proofs.Common.{◌≢◌}
 use mathlib.Core.Bool.{Bool, true, false, ◌&&◌, cond, true≢false}
 use mathlib.Core.List.{List, ◌++◌, Memᴰ}
 use native.Mathlib.Omega.{arith}
 use borrow.Author.Tests.{lt-ltb, le-ltb, le-leb, eq-eqb, ne_eqb, ltb-true, ltb-false, leb-true, eqb-true, eqb-false, not-false}
-use lib.Dec.{ltb, leb}
+use lib.Dec.{ltb, leb, lit≤}
 use lib.ListN.{length, get_or}
+use lib.Bits.{bit_and}
 use Rattle.bits.specs.Bits.{FitsWord}
+use Rattle.bits.proofs.Laws.{low_cleared}
 use Rattle.lists.specs.Lists.{held}
 use Rattle.lists.specs.Refusals.{Case, first_met}
 use Rattle.lists.proofs.Laws.{FirstLeft, first-here, first-later, first_none, any_none, none_any, both_true, cond_map, met, met-map, met-append}
@@ -17,6 +20,7 @@ use Rattle.stage2_range.specs.declared.Stage2ConfigError.TheVariants.{RangeBaseN
 use Rattle.stage2_range.specs.declared.Stage2Result.{Stage2Result}
 use Rattle.stage2_range.specs.declared.Stage2Result.TheVariants.{Accepted, Refused}
 use Rattle.stage2_range.specs.declared.PageRange.{PageRange}
+use Rattle.stage2_range.specs.declared.AlignedUp.TheVariants.{Address, NoPageAbove}
 use Rattle.stage2_range.specs.Ranges.{after, largest_end, answer_of, range_cases, validate_range, ValidRange, error_number, result_number, page_range, has_byte, shares_byte, overlaps, align_down, align_up, aligned_number}
 
 -- two tests that imply each other are equal
@@ -234,6 +238,28 @@ valid_accepted base size v =
       le-ltb largest_end (base + size) v.ends,
     )
 
+-- What each test of a base and a size says, past those before it.
+module _ (base size : ℕ) where
+  pub base_refused : base % 4096 ≢ 0 → validate_range base size ≡ Refused RangeBaseNotPageAligned
+  unfolding validate_range
+  base_refused b = simp (ne_eqb _ _ b)
+
+  pub empty_refused : base % 4096 ≡ 0 → size ≡ 0 → validate_range base size ≡ Refused EmptyRange
+  unfolding validate_range
+  empty_refused b s = simp (eq-eqb _ _ b, eq-eqb _ _ s)
+
+  pub size_refused : base % 4096 ≡ 0 → size ≢ 0 → size % 4096 ≢ 0 → validate_range base size ≡ Refused RangeSizeNotPageMultiple
+  unfolding validate_range
+  size_refused b s m = simp (eq-eqb _ _ b, ne_eqb _ _ s, ne_eqb _ _ m)
+
+  pub end_refused : base % 4096 ≡ 0 → size ≢ 0 → size % 4096 ≡ 0 → largest_end < base + size
+      → validate_range base size ≡ Refused RangeEndOverflow
+  unfolding validate_range
+  end_refused b s m e = simp (eq-eqb _ _ b, ne_eqb _ _ s, eq-eqb _ _ m, lt-ltb _ _ e)
+
+  pub range_accepted : base % 4096 ≡ 0 → size ≢ 0 → size % 4096 ≡ 0 → base + size ≤ largest_end → validate_range base size ≡ Accepted
+  range_accepted b s m e = valid_accepted base size (record { base_aligned = b; not_empty = s; whole_pages = m; ends = e })
+
 -- "1 to 4 in order", first met wins
 pub validate_number : (base size : ℕ) → result_number (validate_range base size) ≡ first_met error_number 0 (range_cases base size)
 unfolding validate_range
@@ -259,6 +285,15 @@ error_not_zero RangeNotHeld h = omega arith
 pub zero_accepted : (s : Stage2Result) → result_number s ≡ 0 → s ≡ Accepted
 zero_accepted Accepted e = refl
 zero_accepted (Refused error) e = absurd (error_not_zero error e)
+
+-- past the last page boundary there is none, and up to it the sum's low bits are cleared
+pub none_above : (address : ℕ) → 2 ^ 64 - 4096 < address → align_up address ≡ NoPageAbove
+unfolding align_up
+none_above address h = rw (lt-ltb _ _ h)
+
+pub aligned_above : (address : ℕ) → address ≤ 2 ^ 64 - 4096 → align_up address ≡ Address (bit_and (address + 4095) 18446744073709547520)
+unfolding align_up align_down
+aligned_above address h = simp (le-ltb _ _ h, low_cleared 64 12 (address + 4095) (lit≤ tt) (omega arith))
 
 -- 18 exactly above 2^64 - 4,096
 pub aligned_number_lem : (address : ℕ) → aligned_number (align_up address) ≡ cond (ltb (2 ^ 64 - 4096) address) 18 0

@@ -142,6 +142,20 @@ module _ (regions : List MemoryAccessRegion) (n : ℕ) (region : MemoryAccessReg
   unfolding register_region
   apart_registered h o = rw (lt-leb 16 n h, o)
 
+-- an accepted region stands at the place that the search gives
+pub apart_placed : (regions : List MemoryAccessRegion) (n : ℕ) (region : MemoryAccessRegion) → n < 16 → n ≤ length regions
+    → overlaps_regions (held 16 n regions) (region_bytes region) ≡ false
+    → register_region regions n region
+    ≡ record {
+      answer = Accepted;
+      regions = insert_at regions n (first_index (not_below region) (held 16 n regions)) region;
+      region_count = n + 1;
+    }
+apart_placed regions n region h k o = rw (apart_registered regions n region h o, insert_region_lem regions n region (omega arith) k)
+
+-- the registry after a call, by the first test met
+pub ruleset register_steps = (full-refused, overlap_refused, apart_placed)
+
 -- the first of two searches that finds a region
 abbrev pub or_else : RegionFound → RegionFound → RegionFound
 or_else Nothing other = other

@@ -361,6 +361,7 @@ pub fn align_down_to_page(address: u64) -> u64
 }
 
 // Rounds `address` up to the nearest page boundary. (The test stands before the sum, so that the sum fits a word.)
+#[tactic(auto, using(crate::proofs::Ranges::none_above, crate::proofs::Ranges::aligned_above))]
 pub fn align_up_to_page(address: u64) -> AlignedUp
     ensures { result ≡ align_up address }
 {
@@ -373,6 +374,7 @@ pub fn align_up_to_page(address: u64) -> AlignedUp
 }
 
 // Refusals 1 to 4, in order.
+#[tactic(auto, using(crate::proofs::Ranges::base_refused, crate::proofs::Ranges::empty_refused, crate::proofs::Ranges::size_refused, crate::proofs::Ranges::end_refused, crate::proofs::Ranges::range_accepted))]
 pub fn validate_range(base_ipa: u64, size: u64) -> Stage2Result
     ensures { result ≡ validate_range base_ipa size }
 {
@@ -521,6 +523,7 @@ pub fn find_region(regions: [MemoryAccessRegion; 16], region_count: u64, ipa: Ip
 }
 
 // Refusals 8 and 9, in order; an accepted region goes before the first whose base is not below its own.
+#[tactic(auto, using(crate::proofs::Registry::register_steps))]
 pub fn register(
     regions: [MemoryAccessRegion; 16],
     region_count: u64,
