@@ -110,6 +110,7 @@ fn put_reply(
 }
 
 // Gives a core the answer that it waits for: refusals 10, 14, 15.
+#[tactic(auto, using(crate::proofs::Laws::reply_none))]
 pub fn reply(
     cores: &mut [u8; CORES_SIZE],
     core: u64,

@@ -1,16 +1,11 @@
--- Above 7 there is no core; else the call is the step by what was decided, and a refusal stores nothing.
+-- The call of one of the eight is the step by what was decided, and a refusal stores nothing.
 use native.Mathlib.Omega.{arith}
 use mathlib.Core.Path.{refl}
 use mir.Syntax.{w32}
 use mir.ValLaws.{to_z-of_z}
 use Rattle.core_answers.proofs.Laws.{error_not_zero}
-use Rattle.lent_reply.proofs.Laws.{reply_none, reply_one}
+use Rattle.lent_reply.proofs.Laws.{reply_one}
 use Rattle.lent_reply.proofs.reply.Goals as goal
-
-pub returns-then-core-gt-LAST_CORE : goal.returns-then-core-gt-LAST_CORE
-returns-then-core-gt-LAST_CORE c =
-    let a = c.args in
-    rw (reply_none a.cores.now a.core a.kind a.values.now a.error (omega arith)) (c.number.ensures, refl, refl)
 
 pub returns-in-Taken : goal.returns-in-Taken
 returns-in-Taken c =
