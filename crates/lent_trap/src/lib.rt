@@ -160,6 +160,7 @@ fn dispatch(
 }
 
 // Takes a core's trap: refusals 10 to 13. The result is the answer's kind, and the values and the SVE hint of a forwarded call.
+#[tactic(auto, using(crate::proofs::Laws::trap_none))]
 pub fn trap(
     policy: &[u8; POLICY_SIZE],
     cores: &mut [u8; CORES_SIZE],

@@ -1,14 +1,9 @@
--- Above 7 there is no core, a core that waits is refused, and else the trap is dispatched.
+-- Of the eight cores, one that waits is refused, and else the trap is dispatched.
 use native.Mathlib.Omega.{arith}
 use mathlib.Core.Path.{refl}
 use Rattle.hypervisor.specs.Trap.{handle_sync_lower}
-use Rattle.lent_trap.proofs.Laws.{trap_none, trap_one}
+use Rattle.lent_trap.proofs.Laws.{trap_one}
 use Rattle.lent_trap.proofs.trap.Goals as goal
-
-pub returns-then-core-gt-LAST_CORE : goal.returns-then-core-gt-LAST_CORE
-returns-then-core-gt-LAST_CORE c =
-    let a = c.args in
-    rw (trap_none a.policy.now a.cores.now a.core a.trap (omega arith)) (c.answer.ensures.0, refl, c.answer.ensures.1)
 
 pub returns-in-Call : goal.returns-in-Call
 unfolding handle_sync_lower
