@@ -130,6 +130,7 @@ impl Core {
     }
 
     // The core past the instruction that trapped. (RITM's `advance_pc`, by the length of an instruction.)
+    #[tactic(auto, unfolding(crate::specs::Registers::advance_pc))]
     pub fn advance_pc(self) -> Self
         ensures { result ≡ advance_pc self }
     {
@@ -139,6 +140,7 @@ impl Core {
     }
 
     // The value of guest register `index`.
+    #[tactic(auto, unfolding(crate::specs::Registers::read_gpr))]
     pub fn read_gpr(self, index: usize) -> GprRead
         ensures { result ≡ read_gpr self index }
     {
@@ -150,6 +152,7 @@ impl Core {
     }
 
     // The core with `value` in guest register `index`.
+    #[tactic(auto, unfolding(crate::specs::Registers::write_gpr, crate::specs::Registers::with_registers))]
     pub fn write_gpr(self, index: usize, value: u64) -> GprWritten
         ensures { result ≡ write_gpr self index value }
     {
