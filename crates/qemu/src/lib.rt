@@ -27,6 +27,7 @@ impl FilteredRead {
 }
 
 // A load from the filtered page. `counter` is RITM's FILTERED_MMIO_COUNTER.
+#[tactic(auto, unfolding(crate::specs::FilteredMmio::read_filtered_mmio, crate::specs::FilteredMmio::loads_counter, crate::specs::FilteredMmio::counter_after))]
 pub fn read_filtered_mmio(access: MemoryReadAccess, counter: u64) -> FilteredRead
     ensures { result ≡ read_filtered_mmio access counter }
 {
@@ -40,6 +41,7 @@ pub fn read_filtered_mmio(access: MemoryReadAccess, counter: u64) -> FilteredRea
 }
 
 // A 64-bit load: the word at an offset, and the counter then.
+#[tactic(auto, unfolding(crate::specs::FilteredMmio::page_word, crate::specs::FilteredMmio::counter_after))]
 fn read_word(offset: u64, counter: u64) -> FilteredRead
     ensures { result ≡ record { result = page_word offset counter; counter = counter_after (offset == 16) counter } }
 {
@@ -57,6 +59,7 @@ fn read_word(offset: u64, counter: u64) -> FilteredRead
 }
 
 // A store to the filtered page.
+#[tactic(auto, unfolding(crate::specs::FilteredMmio::write_filtered_mmio))]
 pub fn write_filtered_mmio(access: MemoryWriteAccess) -> MemoryWriteResult
     ensures { result ≡ write_filtered_mmio access }
 {
