@@ -12,11 +12,11 @@ use mathlib.Core.Bool.{true, false, cond, true≢false}
 use native.Mathlib.Omega.{arith}
 use borrow.Author.Tests.{lt-ltb, le-ltb, ltb-true}
 use lib.Dec.{ltb}
-use lib.IntN.{ℤ, pos, negsuc, ◌-ℤ◌}
+use lib.IntN.{ℤ, pos, negsuc, ◌-ℤ◌, nat_abs}
 use lib.Signed.{mag, lt_z}
 use mir.Syntax.{w32}
 use mir.Val.{SFits, to_z, of_z}
-use mir.ValLaws.{to_z_pos}
+use mir.ValLaws.{to_z_pos, to_z-of_z}
 use Rattle.core_answers.specs.declared.CoreError.TheVariants.{UnknownReplyKind}
 use Rattle.hvc_response.specs.declared.HvcResultKind.TheVariants.{Refused, Result}
 use Rattle.hvc_response.specs.Response.{signed_word, with_first, result_of_kind, result_kind_number, reply_length, response}
@@ -46,6 +46,14 @@ negative (negsuc n) f t = record {
   amount = rw (less_one n) (to_z_pos w32 n f.sfits);
   word = omega arith;
 }
+
+-- the word of a negative 32-bit number is the complement of -1 less it
+pub complement : (z : ℤ) → SFits w32 z → lt_z (to_z w32 (of_z w32 z)) (pos 0) ≡ true
+    → 18446744073709551615 - nat_abs (to_z w32 (of_z w32 (negsuc 0 -ℤ to_z w32 (of_z w32 z)))) ≡ signed_word z
+complement z f t =
+    let back = to_z-of_z w32 z f in
+    let n = negative z f (rw back at t) in
+    rw (back, n.amount) n.word
 
 -- a 32-bit number that is not negative is its own word
 pub natural : (z : ℤ) → SFits w32 z → lt_z z (pos 0) ≡ false → (z ≡ pos (signed_word z)) × (signed_word z < 2 ^ 64)

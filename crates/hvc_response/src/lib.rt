@@ -46,6 +46,7 @@ pub const NOT_SUPPORTED: i32 = -1;
 
 impl HvcResult {
     // The result that a reply's kind names, with the value or the error where the kind has one.
+    #[tactic(auto, using(crate::proofs::Laws::unknown_kind), unfolding(crate::specs::Response::result_of_kind))]
     pub fn from_kind(kind: u64, value: u64, error: i32) -> HvcResultKind
         ensures { result ≡ result_of_kind kind value error }
     {
@@ -101,6 +102,7 @@ fn write_response_registers(core: Core, results: [u64; REPLY_VALUES], count: usi
 }
 
 // The error, sign-extended. A cast keeps a number's value, so a negative one goes by its complement.
+#[tactic(auto, using(crate::proofs::Laws::complement, crate::proofs::Laws::natural))]
 pub fn error_to_u64(error: i32) -> u64
     ensures { result ≡ signed_word error }
 {
