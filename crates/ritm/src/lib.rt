@@ -219,6 +219,7 @@ pub fn ritm_align_up_to_page(address: u64, res: &mut [u8; ONE_WORD]) -> u64
 }
 
 // The length in bytes of a lent buffer by its number, and 0 where there is none.
+#[tactic(auto, using(std::proofs::lemmas::List::get_or_past), unfolding(crate::specs::Interface::buffer_size))]
 pub fn ritm_buffer_size(buffer: u64) -> u64
     ensures { result ≡ buffer_size buffer }
 {
