@@ -107,6 +107,7 @@ fn refuse(policy: Policy, error: Stage2ConfigError) -> Built
 }
 
 // Refusals 5 to 7, in order; an accepted range goes after those that are held.
+#[tactic(auto, unfolding(crate::specs::Policy::add_allowed))]
 fn allow_valid(policy: Policy, range: Stage2Range) -> Built
     ensures { result ≡ built_by (answer_of (allow_cases policy (range_bytes range))) policy (add_allowed policy range) }
 {
