@@ -110,6 +110,7 @@ pub fn forward_call(core: Core, conduit: Conduit) -> ForwardedCall
 }
 
 // The firmware answers PSCI calls, of either register width, and the platform all others.
+#[tactic(auto, unfolding(crate::specs::ForwardedCall::recipient_of))]
 fn recipient_of(function_id: u64) -> Recipient
     ensures { result ≡ recipient_of function_id }
 {
