@@ -1,10 +1,11 @@
 -- Laws on the suspend map. Assumes nothing.
-use Prim.Native.Nat.{ℕ}
+use Prim.Native.Nat.{ℕ, ◌<◌, ◌≤◌}
 use mathlib.Core.Path.{◌≡◌, refl, sym, ◌∙◌, ap}
 use mathlib.Core.Bool.{true, false, cond, true≢false}
 use native.Mathlib.Omega.{arith}
 use mathlib.Core.List.{List, Memᴰ}
 use lib.Dec.{ltb}
+use borrow.Author.Tests.{lt-ltb, le-ltb}
 use lib.ListN.{length, get_or, set}
 use Rattle.lists.specs.Lists.{any_of, first_index}
 use Rattle.lists.proofs.Laws.{first-at, first_none, none_first, any_at, replace_at, replace_any, length_replace, cond_all}
@@ -17,6 +18,8 @@ use Rattle.simple_map.specs.declared.Insertion.TheVariants.{Accepted, CapacityEx
 use Rattle.simple_map.specs.declared.SuspendCoreData.{SuspendCoreData}
 use Rattle.simple_map.specs.Map.{has_key, item_value, is_free, taken, holds_key, free_place, without, has_room, value_of, get_item, insert_item, insert_number}
 use Rattle.simple_map.specs.declared.Inserted.{Inserted}
+use Rattle.simple_map.specs.declared.Sought.TheVariants.{Free}
+use Rattle.simple_map.specs.Search.{place_fits}
 
 -- the first item with the key, by its place
 pub get_at : (map : SimpleMap) (key : ℕ)
@@ -74,6 +77,14 @@ module _ (map : SimpleMap) (key : ℕ) (value : SuspendCoreData) where
       (record { answer = CapacityExceeded; map = map })
   unfolding insert_item
   insert_at_lem = rw (room_at, replace_at is_free (taken key value) rest)
+
+  -- by the place found among those left: the item is stored there, or none is free
+  pub insert_stores : (found : List Place) (at : ℕ) → found ≡ rest → at ≡ first_index is_free found → length map.items ≡ 8 → at < 8
+      → record { answer = Accepted; map = record { items = set found at (taken key value) } } ≡ insert_item map key value
+  insert_stores found at e f full h = sym (rw (insert_at_lem, full, ← e, ← f, lt-ltb at 8 h))
+
+  pub insert_full : length map.items ≡ 8 → 8 ≤ first_index (place_fits Free) rest → record { answer = CapacityExceeded; map = map } ≡ insert_item map key value
+  insert_full full h = sym (rw (insert_at_lem, full, le-ltb free_at 8 h))
 
   -- 16 exactly where the key is not held and all places are taken; the map is then as it was
   pub no_room_refused : has_room map key ≡ false → insert_item map key value ≡ record { answer = CapacityExceeded; map = map }

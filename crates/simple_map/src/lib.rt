@@ -98,6 +98,7 @@ impl SimpleMap {
     }
 
     // Removes the first item with the key, then puts the new one into the first free place.
+    #[tactic(auto, using(crate::proofs::Laws::insert_stores, crate::proofs::Laws::insert_full))]
     pub fn insert(self, key: u64, value: SuspendCoreData) -> Inserted
         ensures { result ≡ insert_item self key value }
     {
