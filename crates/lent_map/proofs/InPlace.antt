@@ -198,3 +198,8 @@ module _ (b : List ℕ) (key held : ℕ) (at_key : held ≡ first_index (holds_k
             two_from b 0 8 held free free_place (taken key value) before (ltb-true held 8 e) h ∙ rw (zero-add free, zero-add held)
         go false e =
             rw (set_out (map_at b).items held free_place (omega (arith, eight b, ltb-false held 8 e))) (place_stored b free (taken key value) h m)
+
+-- where no place is free, and none holds the key, an insert is refused
+pub none_inserted : (b : List ℕ) (key : ℕ) (value : SuspendCoreData) → first_index is_free (map_at b).items ≤ first_index (holds_key key) (map_at b).items
+    → 8 ≤ first_index is_free (map_at b).items → CapacityExceeded ≡ (insert_item (map_at b) key value).answer
+none_inserted b key value l m = rw (not_inserted b key _ refl value _ refl l m)

@@ -137,6 +137,7 @@ fn remove_entry(map: &mut [u8; MAP_SIZE], key: u64) -> Lookup
 }
 
 // Holds an entry under the key. Once the key's first entry is removed its place is free too: the new one goes to the lower of the two places.
+#[tactic(auto, using(crate::proofs::InPlace::none_inserted))]
 fn insert_entry(map: &mut [u8; MAP_SIZE], key: u64, value: SuspendCoreData) -> Insertion
     ensures { (result ≡ (insert_item (map_at map.old) key value).answer)
         × (map.new ≡ unless_refused (insert_number result) map.old (with_places map.old (insert_item (map_at map.old) key value).map.items)) }

@@ -1,8 +1,8 @@
 -- By which place comes first, the key's or a free one: the laws say what each comes to.
+use Prim.Native.Nat.{◌<◌}
 use native.Mathlib.Omega.{arith}
-use mathlib.Core.Path.{refl}
 use Rattle.simple_map.specs.Map.{is_free, taken}
-use Rattle.lent_map.proofs.InPlace.{index_within, place_stored, inserted_there, not_inserted, inserted_before, both_stored}
+use Rattle.lent_map.proofs.InPlace.{index_within, place_stored, inserted_there, inserted_before, both_stored}
 use Rattle.lent_map.proofs.insert_entry.Goals as goal
 
 pub put_place-requires : goal.put_place-requires
@@ -18,21 +18,13 @@ returns-then-old-free c =
     let s = place_stored a.map.now c.find_key-old.result (taken a.key a.value) c.are_bytes.ensures (omega (arith, c.if-old-free.true, index_within _ is_free _ free)) in
     (rw e, rw (e, s) c.put_place.ensures)
 
-pub returns-then-free-ge8 : goal.returns-then-free-ge8
-returns-then-free-ge8 c =
-    let a = c.args in
-    let held = c.find_key-old.ensures in
-    let free = c.find_free-free.ensures in
-    let e = not_inserted _ _ _ held a.value _ free c.if-old-free.false c.if-free-ge8.true in
-    (rw e, refl)
-
 pub returns : goal.returns
 returns c =
     let a = c.args in
     let held = c.find_key-old.ensures in
     let free = c.find_free-free.ensures in
     let l = c.if-old-free.false in
-    let m = c.if-free-ge8.false in
+    let m : c.find_free-free.result < 8 = omega arith in
     let h = c.are_bytes.ensures in
     let e = inserted_before _ _ _ held a.value _ free l m in
     let s = both_stored _ _ _ held a.value _ free l m h in
