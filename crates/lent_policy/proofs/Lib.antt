@@ -5,3 +5,4 @@ pub mod InPlace
 pub mod Insertion
 pub mod Search
 pub mod Calls
+pub mod Cases

@@ -1,6 +1,6 @@
 -- Laws of searches in lent bytes. Assumes nothing.
 use Prim.Native.Nat.{ℕ, ◌-◌, ◌≤◌, ◌<◌, min}
-use mathlib.Core.Path.{◌≡◌, sym, ap}
+use mathlib.Core.Path.{◌≡◌, refl, sym, ap}
 use mathlib.Core.Bool.{Bool}
 use mathlib.Core.List.{List, [], ◌∷◌}
 use native.Mathlib.Omega.{arith}
@@ -113,3 +113,14 @@ module _ (policy : List ℕ) (ipa k : ℕ) (e : k ≡ first_index (has_address i
   pub none_leaves : min (word_at policy region_count_at) 16 ≤ k → find_call policy ipa ≡ leaves (0 ∷ 0 ∷ 0 ∷ [])
   unfolding find_call
   none_leaves h = rw (← e) (ap (λ f. leaves (found_values k f)) (sym (region_nothing policy (record { 0 = ipa }) k e h)))
+
+-- by the place of the first region held that has an address: what a search answers past those held, and what it leaves at one of them
+pub none_there : (policy : List ℕ) (ipa : Ipa) → min (word_at policy region_count_at) 16 ≤ first_index (has_address ipa.0) (regions_held (policy_at policy))
+    → Nothing ≡ find_region (regions_held (policy_at policy)) ipa
+none_there policy ipa h = region_nothing policy ipa _ refl h
+
+pub one_there : (policy : List ℕ) (ipa : ℕ) →
+    let k = first_index (has_address ipa) (regions_held (policy_at policy)) in
+    k < min (word_at policy region_count_at) 16
+    → record { number = 0; state = policy; result = bytes_of (1 ∷ k ∷ (ipa - (region_at policy k).base_ipa) ∷ []) } ≡ find_call policy ipa
+one_there policy ipa h = sym (find-leaves policy ipa _ refl h)

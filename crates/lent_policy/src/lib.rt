@@ -145,6 +145,7 @@ fn put_region(policy: &mut [u8; POLICY_SIZE], place: usize, region: MemoryAccess
 
 // Stores a region at the next place too. (By its words: to make a handler of each code and a number of that again took a quarter more
 // instructions.)
+#[tactic(auto, unfolding(crate::specs::Layout::region_at))]
 fn copy_region(policy: &mut [u8; POLICY_SIZE], place: usize)
     requires { place < 15 }
     ensures { policy.new ≡ with_region policy.old (place + 1) (region_at policy.old place) }
@@ -159,6 +160,7 @@ fn copy_region(policy: &mut [u8; POLICY_SIZE], place: usize)
 }
 
 // Stores a region at any other place too; where one of the places is none, nothing. (By its words, as `copy_region`.)
+#[tactic(auto, using(crate::proofs::InPlace::copied, crate::proofs::InPlace::no_from, crate::proofs::InPlace::no_to), unfolding(crate::specs::Layout::region_at))]
 pub fn copy_region_to(policy: &mut [u8; POLICY_SIZE], from: u64, to: u64)
     ensures { policy.new ≡ with_copy policy.old from to }
 {
@@ -245,6 +247,7 @@ fn get_region_base(policy: &[u8; POLICY_SIZE], place: u64) -> u64
 }
 
 // The first region held that has the address, and the offset in it. No other region is read whole.
+#[tactic(auto, using(crate::proofs::Search::none_there))]
 pub fn find_region(policy: &[u8; POLICY_SIZE], ipa: Ipa) -> RegionFound
     ensures { result ≡ find_region (regions_held (policy_at policy.now)) ipa }
 {
@@ -261,6 +264,7 @@ pub fn find_region(policy: &[u8; POLICY_SIZE], ipa: Ipa) -> RegionFound
 }
 
 // The first region held that has the address: whether there is one, its place and the offset in it.
+#[tactic(auto, using(crate::proofs::Search::one_there))]
 pub fn find(policy: &[u8; POLICY_SIZE], ipa: u64, res: &mut [u8; THREE_WORDS]) -> u64
     ensures { Leaves (find_call policy.now ipa) result policy.now res.new }
 {
@@ -305,6 +309,7 @@ fn overlaps_regions(policy: &[u8; POLICY_SIZE], bytes: PageRange) -> bool
 }
 
 // Refusals 5 to 7, in order.
+#[tactic(auto, using(crate::proofs::Cases::allow_full, crate::proofs::Cases::allow_overlaps, crate::proofs::Cases::allow_handled, crate::proofs::Cases::allow_fits))]
 fn allow_answer_for(policy: &[u8; POLICY_SIZE], range: Stage2Range) -> Stage2Result
     ensures { result ≡ answer_of (allow_cases (policy_at policy.now) (range_bytes range)) }
 {
@@ -363,6 +368,7 @@ pub fn allow_range(policy: &mut [u8; POLICY_SIZE], base_ipa: u64, size: u64, att
 }
 
 // Refusals 6, 8 and 9, in order.
+#[tactic(auto, using(crate::proofs::Cases::handle_overlaps, crate::proofs::Cases::handle_full, crate::proofs::Cases::handle_handled, crate::proofs::Cases::handle_fits))]
 fn handle_answer_for(policy: &[u8; POLICY_SIZE], region: MemoryAccessRegion) -> Stage2Result
     ensures { result ≡ answer_of (handle_cases (policy_at policy.now) (region_bytes region)) }
 {

@@ -1,6 +1,6 @@
 use native.Mathlib.Omega.{arith}
 use mathlib.Core.Path.{refl}
-use Rattle.lent_policy.proofs.Search.{base_below, find-leaves, none_leaves}
+use Rattle.lent_policy.proofs.Search.{base_below, none_leaves}
 use Rattle.lent_policy.proofs.find.Goals as goal
 
 pub overflow_sub-offset : goal.overflow_sub-offset
@@ -9,14 +9,6 @@ overflow_sub-offset c =
     let p = c.find_place-place in
     rw c.get_region_base.ensures
     (base_below b _ p.result p.ensures (omega (arith, c.regions_held.ensures)))
-
-pub returns-then-place-regions_held : goal.returns-then-place-regions_held
-returns-then-place-regions_held c =
-    let a = c.args in
-    let p = c.find_place-place in
-    let within = c.regions_held.ensures in
-    rw (find-leaves a.policy.now a.ipa p.result p.ensures (omega (arith, within)), ← c.get_region_base.ensures)
-    (refl, refl, c.put_three.ensures)
 
 pub returns : goal.returns
 returns c =

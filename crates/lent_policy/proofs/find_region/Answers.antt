@@ -1,12 +1,6 @@
 use native.Mathlib.Omega.{arith}
-use Rattle.lent_policy.proofs.Search.{base_below, region_here, region_nothing}
+use Rattle.lent_policy.proofs.Search.{base_below, region_here}
 use Rattle.lent_policy.proofs.find_region.Goals as goal
-
-pub returns-then-regions_held-place : goal.returns-then-regions_held-place
-returns-then-regions_held-place c =
-    let a = c.args in
-    let p = c.find_place-place in
-    region_nothing a.policy.now a.ipa p.result p.ensures (omega (arith, c.regions_held.ensures))
 
 pub overflow_sub-result : goal.overflow_sub-result
 overflow_sub-result c =

@@ -14,11 +14,11 @@ returns-then-base_ipa-get_region_base c =
     let a = c.args in
     let b = a.policy.now in
     let n = c.loop-place.place in
-    index_here c.loop-place.invariant (omega arith) (omega arith) (region_at b 0) (rw (region_of_lem b n (region_at b 0) (omega arith), ← c.get_region_base.ensures) (le-leb _ _ c.if-base_ipa-get_region_base.true))
+    index_here c.loop-place.invariant (omega arith) (omega arith) (region_at b 0) (rw (region_of_lem b n (region_at b 0) (omega arith), ← c.get_region_base.ensures) (le-leb _ _ (omega arith)))
 
 pub loop-place-preserved : goal.loop-place-preserved
 loop-place-preserved c =
     let a = c.args in
     let b = a.policy.now in
     let n = c.loop-place.place in
-    index_later c.loop-place.invariant (omega arith) (omega arith) (region_at b 0) (rw (region_of_lem b n (region_at b 0) (omega arith), ← c.get_region_base.ensures) (lt-leb _ _ c.if-base_ipa-get_region_base.false))
+    index_later c.loop-place.invariant (omega arith) (omega arith) (region_at b 0) (rw (region_of_lem b n (region_at b 0) (omega arith), ← c.get_region_base.ensures) (lt-leb _ _ (omega arith)))
