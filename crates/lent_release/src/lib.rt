@@ -110,6 +110,7 @@ fn remove_region(policy: &mut [u8; POLICY_SIZE], n: u64, at: u64)
 }
 
 // Refusal 23; else one record goes, of the allowed ranges before the regions.
+#[tactic(auto, using(crate::proofs::Laws::range_leaves, crate::proofs::Laws::region_leaves, crate::proofs::Laws::none_leaves))]
 fn release_valid(policy: &mut [u8; POLICY_SIZE], base_ipa: u64, size: u64) -> u64
     ensures { Leaves (valid_release_call policy.old base_ipa size) result policy.new [] }
 {
