@@ -36,6 +36,7 @@ pub enum AccessOutcome {
 }
 
 // A data abort of one core, by the regions that are held.
+#[tactic(auto, using(crate::proofs::Laws::by_outcome))]
 pub fn handle_data_abort(
     regions: [MemoryAccessRegion; 16],
     region_count: u64,
@@ -64,6 +65,7 @@ pub fn handle_data_abort(
     }
 }
 
+#[tactic(auto, using(crate::proofs::Laws::access_tried, crate::proofs::Laws::nothing_tried))]
 fn try_memory_access_handler(
     regions: [MemoryAccessRegion; 16],
     region_count: u64,
@@ -97,6 +99,7 @@ pub fn decode_abort(trap: TrapRegisters) -> Decoded
 }
 
 // What the access comes to, by the region that has its address and by what its register holds.
+#[tactic(auto, unfolding(crate::specs::DataAbort::emulate_access))]
 pub fn emulate_access(
     found: RegionFound,
     access: MemoryAccess,
@@ -112,6 +115,7 @@ pub fn emulate_access(
 }
 
 // The access to a region, through the handler for its direction.
+#[tactic(auto, unfolding(crate::specs::DataAbort::through, crate::specs::DataAbort::emulate_access))]
 fn access_in(
     found: MemoryAccessHandlerMatch,
     access: MemoryAccess,
@@ -135,6 +139,7 @@ fn access_in(
     }
 }
 
+#[tactic(auto, unfolding(crate::specs::DataAbort::through))]
 fn read_through(
     handler: MemoryHandler,
     access: MemoryAccess,
@@ -163,6 +168,7 @@ fn read_through(
     }
 }
 
+#[tactic(auto, unfolding(crate::specs::DataAbort::through))]
 fn write_through(
     handler: MemoryHandler,
     access: MemoryAccess,
@@ -223,6 +229,7 @@ pub fn injection_of(elr: u64, spsr: u64, trap: TrapRegisters) -> Injection
     }
 }
 
+#[tactic(auto, unfolding(crate::specs::DataAbort::inject_data_abort, crate::specs::DataAbort::injected))]
 fn inject_data_abort(core: Core, counter: u64, trap: TrapRegisters) -> TrapStep
     ensures { result ≡ inject_data_abort core counter trap }
 {
