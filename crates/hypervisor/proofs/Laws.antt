@@ -1,8 +1,11 @@
 -- Laws on the trap's parts that its functions' proofs cite. Assumes nothing.
-use Prim.Native.Nat.{ℕ}
+use Prim.Native.Nat.{ℕ, ◌/◌, ◌^◌}
+use lib.Bits.{bit_and}
+use Rattle.bits.specs.Bits.{bits_at}
+use Rattle.bits.proofs.Laws.{field}
 use mathlib.Core.Path.{◌≡◌, refl}
 use mathlib.Core.Bool.{Bool, true, false, cond}
-use borrow.Author.Tests.{eqb-true}
+use borrow.Author.Tests.{eqb-true, ne_eqb}
 use lib.Dec.{eqb}
 use Rattle.hypervisor.specs.declared.ExceptionClass.{ExceptionClass}
 use Rattle.hypervisor.specs.declared.ExceptionClass.TheVariants.{HvcTrappedInAArch64, SmcTrappedInAArch64, DataAbortLowerEl, Unknown}
@@ -37,6 +40,24 @@ by_class_lem P class hvc smc abort other = is_hvc (eqb class 0x16) refl
         → P (cond b HvcTrappedInAArch64 (cond (eqb class 0x17) SmcTrappedInAArch64 (cond (eqb class 0x24) DataAbortLowerEl Unknown)))
     is_hvc true e = hvc (eqb-true class 0x16 e)
     is_hvc false e = is_smc e (eqb class 0x17) refl
+
+-- The class that bits 31:26 of a syndrome name, as the code reads them.
+module _ (esr : ℕ) where
+  read-class : exception_class esr ≡ class_of (bit_and (esr / 2 ^ 26) 63)
+  unfolding exception_class
+  read-class = let e : bit_and (esr / 2 ^ 26) 63 ≡ bits_at esr 26 6 = field esr 26 6 in rw e
+
+  pub hvc_class : bit_and (esr / 2 ^ 26) 63 ≡ 0x16 → HvcTrappedInAArch64 ≡ exception_class esr
+  hvc_class e = rw (read-class, e)
+
+  pub smc_class : bit_and (esr / 2 ^ 26) 63 ≡ 0x17 → SmcTrappedInAArch64 ≡ exception_class esr
+  smc_class e = rw (read-class, e)
+
+  pub abort_class : bit_and (esr / 2 ^ 26) 63 ≡ 0x24 → DataAbortLowerEl ≡ exception_class esr
+  abort_class e = rw (read-class, e)
+
+  pub other_class : (bit_and (esr / 2 ^ 26) 63 ≡ 0x16 → ⊥) → (bit_and (esr / 2 ^ 26) 63 ≡ 0x17 → ⊥) → (bit_and (esr / 2 ^ 26) 63 ≡ 0x24 → ⊥) → Unknown ≡ exception_class esr
+  other_class h s a = rw (read-class, ne_eqb _ 0x16 h, ne_eqb _ 0x17 s, ne_eqb _ 0x24 a)
 
 -- what holds of the core and the counter as they were, after a forwarded call and after a data abort, holds after a trap
 pub trap_all : (P : Core → ℕ → Type 0) (regions : List MemoryAccessRegion) (core : Core) (counter : ℕ) (trap : TrapRegisters) → P core counter

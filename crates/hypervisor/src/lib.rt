@@ -31,6 +31,7 @@ pub struct CoresStep {
 }
 
 // A trap of one core, by the regions that are held.
+#[tactic(auto, unfolding(crate::specs::Trap::handle_sync_lower))]
 pub fn handle_sync_lower(
     regions: [MemoryAccessRegion; 16],
     region_count: u64,
@@ -47,6 +48,7 @@ pub fn handle_sync_lower(
     }
 }
 
+#[tactic(auto, unfolding(crate::specs::Trap::by_class))]
 fn dispatch(
     regions: [MemoryAccessRegion; 16],
     region_count: u64,
@@ -87,6 +89,7 @@ pub enum ExceptionClass {
 }
 
 // The class that a syndrome names.
+#[tactic(auto, using(crate::proofs::Laws::hvc_class, crate::proofs::Laws::smc_class, crate::proofs::Laws::abort_class, crate::proofs::Laws::other_class))]
 pub fn exception_class(esr: u64) -> ExceptionClass
     ensures { result ≡ exception_class esr }
 {
@@ -112,6 +115,7 @@ fn forwarded(call: ForwardedCall, counter: u64) -> TrapStep
 }
 
 // Puts in the registers that the hardware saved.
+#[tactic(auto, unfolding(crate::specs::Cores::save_core))]
 pub fn save_core(core: Core, x: [u64; 31], elr: u64, spsr: u64) -> CoreStep
     ensures { result ≡ save_core core x elr spsr }
 {
@@ -142,6 +146,7 @@ pub fn fresh_cores() -> [Core; 8]
 }
 
 // Puts in a core's registers as the hardware saved them.
+#[tactic(auto, using(lists::proofs::Laws::get_d_any), unfolding(crate::specs::Cores::on_core, crate::specs::Cores::save_on))]
 pub fn save(cores: [Core; 8], core: u64, x: [u64; 31], elr: u64, spsr: u64) -> CoresStep
     ensures { result ≡ save_on cores core x elr spsr }
 {
@@ -154,6 +159,7 @@ pub fn save(cores: [Core; 8], core: u64, x: [u64; 31], elr: u64, spsr: u64) -> C
 }
 
 // Gives a core the answer that it waits for.
+#[tactic(auto, using(lists::proofs::Laws::get_d_any), unfolding(crate::specs::Cores::on_core, crate::specs::Cores::reply_on))]
 pub fn reply(cores: [Core; 8], core: u64, reply: HvcReply) -> CoresStep
     ensures { result ≡ reply_on cores core reply }
 {
@@ -166,6 +172,7 @@ pub fn reply(cores: [Core; 8], core: u64, reply: HvcReply) -> CoresStep
 }
 
 // Takes a core's trap.
+#[tactic(auto, using(lists::proofs::Laws::get_d_any), unfolding(crate::specs::Cores::trap_on))]
 pub fn trap(
     policy: Policy,
     cores: [Core; 8],
