@@ -1,4 +1,5 @@
 -- Each result stores its values from x0 on, arm by arm: one store, four, or the reply's values in parts.
+use mathlib.Core.Path.{refl}
 use Rattle.hvc_response.specs.Response.{response}
 use Rattle.lent_reply.proofs.modify_register_state.Goals as goal
 
@@ -10,3 +11,4 @@ returns-in-SuccessLarge c =
       c.put_values-in-SuccessLarge.ensures,
       c.in-SuccessLarge.is,
     )
+    refl
