@@ -46,6 +46,7 @@ pub const REGION_COUNT: usize = REGIONS + 16 * REGION_WORDS;
 pub const POLICY_SIZE: usize = 8 * (REGION_COUNT + 1);
 
 // Stores an allowed range.
+#[tactic(auto, unfolding(crate::specs::Layout::with_range))]
 fn put_range(policy: &mut [u8; POLICY_SIZE], place: usize, range: Stage2Range)
     requires { place < 32 }
     ensures { policy.new ≡ with_range policy.old place range }
@@ -68,6 +69,7 @@ fn get_bytes(policy: &[u8; POLICY_SIZE], at: usize) -> PageRange
 }
 
 // A region.
+#[tactic(auto, unfolding(crate::specs::Layout::region_at))]
 fn get_region(policy: &[u8; POLICY_SIZE], place: usize) -> MemoryAccessRegion
     requires { place < 16 }
     ensures { result ≡ region_at policy.now place }
@@ -102,6 +104,7 @@ fn kept_handler(policy: &[u8; POLICY_SIZE], at: usize, number: u64) -> u64
 }
 
 // Stores a region by its numbers, those of its handlers last.
+#[tactic(auto, unfolding(crate::specs::Layout::with_region))]
 fn put_region_words(
     policy: &mut [u8; POLICY_SIZE],
     place: usize,
