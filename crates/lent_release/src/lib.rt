@@ -63,6 +63,7 @@ fn region_place(policy: &[u8; POLICY_SIZE], base_ipa: u64, size: u64) -> u64
 }
 
 // Stores an allowed range one place sooner too.
+#[tactic(auto, unfolding(lent_policy::specs::Layout::range_at, lent_policy::specs::Layout::with_range))]
 fn copy_range_down(policy: &mut [u8; POLICY_SIZE], place: usize)
     requires { place < 31 }
     ensures { policy.new ≡ with_range policy.old place (range_at policy.old (place + 1)) }
