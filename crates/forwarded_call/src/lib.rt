@@ -159,6 +159,7 @@ fn wait_for(core: Core, wait: Wait) -> Core
 }
 
 // The firmware answers with one value or an error, kinds 1 and 4.
+#[tactic(auto, unfolding(crate::specs::ForwardedCall::may_reply))]
 fn may_reply(recipient: Recipient, kind: u64) -> bool
     ensures { result ≡ may_reply recipient kind }
 {
