@@ -46,10 +46,12 @@ KNOWN_WORDS='
     nounwind nocallback nofree willreturn memory argmem read write readwrite readonly writeonly captures none immarg
     "probe-stack" "inline-asm" "stack-probe-size" "3072"'
 
-# The words of a module: what is no comment, name, label, number, constant byte or note, and no line that names the target.
+# The words of a module: what is no comment, name, label, number, constant byte or note, and no line that names the
+# target.
 words_of() { # MODULE
-    sed -e '/^target /d' -e 's/@"[^"]*"//g' -e 's/ c"[^"]*"/ c/' -e 's/![^, ]*"[^"]*"//g' -e 's/;.*//' -e 's/[%@!#][-A-Za-z0-9._$]*//g' \
-        -e 's/^[a-z]*\.*[0-9]*://' "$1" | grep -oE '"[^"]*"|[A-Za-z_<][A-Za-z0-9_.]*' | sort -u
+    sed -e '/^target /d' -e 's/@"[^"]*"//g' -e 's/ c"[^"]*"/ c/' -e 's/![^, ]*"[^"]*"//g' -e 's/;.*//' \
+        -e 's/[%@!#][-A-Za-z0-9._$]*//g' -e 's/^[a-z]*\.*[0-9]*://' "$1" |
+        grep -oE '"[^"]*"|[A-Za-z_<][A-Za-z0-9_.]*' | sort -u
 }
 
 check_module() { # MODULE
