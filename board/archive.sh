@@ -40,10 +40,10 @@ fail() {
 KNOWN_WORDS='
     ptr i64 i32 i16 i8 i1 x void label true false align noundef zeroext nuw nsw inbounds to start
     define declare internal attributes source_filename "rattle"
-    constant private unnamed_addr c null
+    constant private unnamed_addr c null zeroinitializer
     alloca load store getelementptr extractvalue call ret br switch unreachable
     add sub mul udiv urem and or xor shl lshr ashr zext sext trunc icmp eq ne ult ule ugt uge slt sle sgt sge
-    nounwind nocallback nofree willreturn memory argmem read write readwrite readonly writeonly captures none immarg
+    nounwind alwaysinline nocallback nofree willreturn memory argmem read write readwrite readonly writeonly captures none immarg
     "probe-stack" "inline-asm" "stack-probe-size" "3072"'
 
 # The words of a module: what is no comment, name, label, number, constant byte or note, and no line that names the

@@ -11,9 +11,10 @@ use Rattle.exceptions.specs.declared.Recipient.TheVariants.{Firmware, Platform}
 use Rattle.core_answers.specs.declared.CoreError.{CoreError}
 use Rattle.core_answers.specs.declared.CoreError.TheVariants.{NoSuchCore, CoreWaiting, UnexpectedExceptionClass, NoGuestVector, NothingWaiting, UnknownReplyKind}
 use Rattle.core_answers.specs.declared.TrapAnswer.{TrapAnswer}
-use Rattle.core_answers.specs.declared.TrapAnswer.TheVariants.{AccessHandled, AbortInjected, Forwarded, Refused}
+use Rattle.core_answers.specs.declared.TrapAnswer.TheVariants.{AccessHandled, AbortInjected, Forwarded}
 use Rattle.core_answers.specs.declared.TrapResult.{TrapResult}
 use Rattle.core_answers.specs.Answers.{core_error_number, trap_number, trap_kind, without_values, result_words}
+use Rattle.std.specs.Prelude.{Err, Ok, Result}
 
 -- no refusal has the number of an accepted call
 pub error_not_zero : (error : CoreError) → eqb (core_error_number error) 0 ≡ false
@@ -25,33 +26,33 @@ error_not_zero NothingWaiting = refl
 error_not_zero UnknownReplyKind = refl
 
 -- a refusal's result is zeros
-pub refused_zero : (error : CoreError) (v : ℕ) → Memᴰ v (result_words (without_values (Refused error))) → v ≡ 0
-refused_zero error v m = Memᴰ.eq_of_replicate (length (result_words (without_values (Refused error)))) m
+pub refused_zero : (error : CoreError) (v : ℕ) → Memᴰ v (result_words (without_values (Err error))) → v ≡ 0
+refused_zero error v m = Memᴰ.eq_of_replicate (length (result_words (without_values (Err error)))) m
 
 -- The number and the words of a result, read back: no field of a result is missing from them.
 
 -- the answer that has this number and this kind
-unfoldable answer_of : ℕ → ℕ → TrapAnswer
+unfoldable answer_of : ℕ → ℕ → Result TrapAnswer CoreError
 answer_of number kind =
     let refusals = NoSuchCore ∷ CoreWaiting ∷ UnexpectedExceptionClass ∷ NoGuestVector ∷ NothingWaiting ∷ UnknownReplyKind ∷ [] in
     get_or
-    (Refused (get_or refusals (number - 10) NoSuchCore) ∷ AccessHandled Read ∷ AccessHandled Write ∷ AbortInjected ∷ Forwarded Firmware ∷ Forwarded Platform ∷ [])
+    (Err (get_or refusals (number - 10) NoSuchCore) ∷ Ok (AccessHandled Read) ∷ Ok (AccessHandled Write) ∷ Ok AbortInjected ∷ Ok (Forwarded Firmware) ∷ Ok (Forwarded Platform) ∷ [])
     kind
-    AbortInjected
+    (Ok AbortInjected)
 
-answer_back : (answer : TrapAnswer) → answer_of (trap_number answer) (trap_kind answer) ≡ answer
+answer_back : (answer : Result TrapAnswer CoreError) → answer_of (trap_number answer) (trap_kind answer) ≡ answer
 unfolding answer_of
-answer_back (AccessHandled Read) = refl
-answer_back (AccessHandled Write) = refl
-answer_back AbortInjected = refl
-answer_back (Forwarded Firmware) = refl
-answer_back (Forwarded Platform) = refl
-answer_back (Refused NoSuchCore) = refl
-answer_back (Refused CoreWaiting) = refl
-answer_back (Refused UnexpectedExceptionClass) = refl
-answer_back (Refused NoGuestVector) = refl
-answer_back (Refused NothingWaiting) = refl
-answer_back (Refused UnknownReplyKind) = refl
+answer_back (Ok (AccessHandled Read)) = refl
+answer_back (Ok (AccessHandled Write)) = refl
+answer_back (Ok AbortInjected) = refl
+answer_back (Ok (Forwarded Firmware)) = refl
+answer_back (Ok (Forwarded Platform)) = refl
+answer_back (Err NoSuchCore) = refl
+answer_back (Err CoreWaiting) = refl
+answer_back (Err UnexpectedExceptionClass) = refl
+answer_back (Err NoGuestVector) = refl
+answer_back (Err NothingWaiting) = refl
+answer_back (Err UnknownReplyKind) = refl
 
 -- words before the last, and the last
 before_last : (ws : List ℕ) (w : ℕ) → drop_last (ws ++ (w ∷ [])) ≡ ws
@@ -66,7 +67,7 @@ last_of (a ∷ []) w = refl
 last_of (a ∷ b ∷ ws) w = last_of (b ∷ ws) w
 
 unfoldable result_of : ℕ → List ℕ → TrapResult
-result_of number [] = without_values AbortInjected
+result_of number [] = without_values (Ok AbortInjected)
 result_of number (kind ∷ ws) = record { answer = answer_of number kind; values = drop_last ws; sve_hint = get_last_d ws 0 }
 
 result_back : (r : TrapResult) → result_of (trap_number r.answer) (result_words r) ≡ r

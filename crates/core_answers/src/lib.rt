@@ -3,9 +3,10 @@
 #![tactic(auto)]
 
 ghost use Rattle.std.specs.Prelude.{◌≡◌};
-ghost use Rattle.core_answers.specs.Answers.{core_error_number, core_number, trap_number, trap_kind, without_values, answered, refused_trap, refused_core};
+ghost use Rattle.core_answers.specs.Answers.{core_error_number, trap_kind, without_values, answered, refused_trap, refused_core};
 
 use exceptions::{Core, Recipient};
+use lists::refusal::Refusal;
 use memory_access::MemoryAccessKind;
 
 // Why a call on a core is refused.
@@ -19,17 +20,11 @@ pub enum CoreError {
     UnknownReplyKind,
 }
 
-// What a save or a reply answers.
-#[derive(Clone, Copy)]
-pub enum CoreAnswer {
-    Accepted,
-    Refused(CoreError),
-}
-
-// What one core's save or reply comes to, and the core then.
+// What one core's save or reply comes to, and the core then. (No `Result<Core, CoreError>`: that a refusal leaves the core as it was
+// is said of the core that it gives.)
 #[derive(Clone, Copy)]
 pub struct CoreStep {
-    pub answer: CoreAnswer,
+    pub answer: Result<(), CoreError>,
     pub core: Core,
 }
 
@@ -41,22 +36,22 @@ pub enum TrapAnswer {
     AbortInjected,
     // The guest's call is the recipient's to answer (document 01: a hand-out).
     Forwarded(Recipient),
-    Refused(CoreError),
 }
 
 // The most registers that a forwarded call hands out, and so the values of a trap's result.
 pub const FORWARDED_VALUES: usize = 18;
 
-// What a trap gives its host: the answer, and the values and the SVE hint of a forwarded call, zeros in every other answer.
+// What a trap gives its host: the answer, and the values and the SVE hint of a forwarded call, zeros in every other answer: the words that C
+// reads, so that they stand beside the answer.
 #[derive(Clone, Copy)]
 pub struct TrapResult {
-    pub answer: TrapAnswer,
+    pub answer: Result<TrapAnswer, CoreError>,
     pub values: [u64; FORWARDED_VALUES],
     // 1 where the caller says that it holds no live SVE state, else 0.
     pub sve_hint: u64,
 }
 
-// What one core's trap gives, and the core and the counter then.
+// What one core's trap gives, and the core and the counter then, of a refusal too (as `CoreStep`).
 #[derive(Clone, Copy)]
 pub struct TrapStep {
     pub result: TrapResult,
@@ -64,11 +59,10 @@ pub struct TrapStep {
     pub counter: u64,
 }
 
-impl CoreError {
-    // The refusal's number.
-    pub fn number(self) -> u64
-        ensures { result ≡ core_error_number self }
-    {
+impl Refusal for CoreError {
+    ghost number_of = { core_error_number };
+
+    fn number(self) -> u64 {
         match self {
             CoreError::NoSuchCore => 10,
             CoreError::CoreWaiting => 11,
@@ -80,67 +74,39 @@ impl CoreError {
     }
 }
 
-impl CoreAnswer {
-    // The answer's number in the table of refusals.
-    pub fn number(self) -> u64
-        ensures { result ≡ core_number self }
-    {
-        match self {
-            CoreAnswer::Accepted => 0,
-            CoreAnswer::Refused(e) => e.number(),
-        }
-    }
-}
-
 impl CoreStep {
     // A refusal leaves the core as it was.
     pub fn refused(error: CoreError, core: Core) -> Self
         ensures { result ≡ refused_core error core }
     {
         CoreStep {
-            answer: CoreAnswer::Refused(error),
+            answer: Err(error),
             core,
         }
     }
 }
 
-impl TrapAnswer {
-    // The answer's number in the table of refusals.
-    pub fn number(self) -> u64
-        ensures { result ≡ trap_number self }
-    {
-        match self {
-            TrapAnswer::AccessHandled(_) => 0,
-            TrapAnswer::AbortInjected => 0,
-            TrapAnswer::Forwarded(_) => 0,
-            TrapAnswer::Refused(e) => e.number(),
-        }
+// Which of the five accepted answers of a trap it is, from 1 on, and 0 for a refusal. (A number: the first word of the result that C reads.)
+pub fn trap_kind(answer: Result<TrapAnswer, CoreError>) -> u64
+    ensures { result ≡ trap_kind answer }
+{
+    match answer {
+        Ok(TrapAnswer::AccessHandled(MemoryAccessKind::Read)) => 1,
+        Ok(TrapAnswer::AccessHandled(MemoryAccessKind::Write)) => 2,
+        Ok(TrapAnswer::AbortInjected) => 3,
+        Ok(TrapAnswer::Forwarded(Recipient::Firmware)) => 4,
+        Ok(TrapAnswer::Forwarded(Recipient::Platform)) => 5,
+        Err(_) => 0,
     }
+}
 
-    // Which of the five accepted answers it is, from 1 on, and 0 for a refusal.
-    pub fn kind(self) -> u64
-        ensures { result ≡ trap_kind self }
-    {
-        match self {
-            TrapAnswer::AccessHandled(kind) => match kind {
-                MemoryAccessKind::Read => 1,
-                MemoryAccessKind::Write => 2,
-            },
-            TrapAnswer::AbortInjected => 3,
-            TrapAnswer::Forwarded(recipient) => match recipient {
-                Recipient::Firmware => 4,
-                Recipient::Platform => 5,
-            },
-            TrapAnswer::Refused(_) => 0,
-        }
-    }
-
+impl TrapResult {
     // The result of a trap whose answer has no values and no hint.
-    pub fn without_values(self) -> TrapResult
-        ensures { result ≡ without_values self }
+    pub fn without_values(answer: Result<TrapAnswer, CoreError>) -> Self
+        ensures { result ≡ without_values answer }
     {
         TrapResult {
-            answer: self,
+            answer,
             values: [0u64; FORWARDED_VALUES],
             sve_hint: 0,
         }
@@ -149,11 +115,11 @@ impl TrapAnswer {
 
 impl TrapStep {
     // A step whose answer has no values and no hint.
-    pub fn answered(answer: TrapAnswer, core: Core, counter: u64) -> Self
+    pub fn answered(answer: Result<TrapAnswer, CoreError>, core: Core, counter: u64) -> Self
         ensures { result ≡ answered answer core counter }
     {
         TrapStep {
-            result: answer.without_values(),
+            result: TrapResult::without_values(answer),
             core,
             counter,
         }
@@ -163,6 +129,6 @@ impl TrapStep {
     pub fn refused(error: CoreError, core: Core, counter: u64) -> Self
         ensures { result ≡ refused_trap error core counter }
     {
-        TrapStep::answered(TrapAnswer::Refused(error), core, counter)
+        TrapStep::answered(Err(error), core, counter)
     }
 }

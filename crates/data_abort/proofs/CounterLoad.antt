@@ -14,8 +14,6 @@ use Rattle.stage2_range.specs.declared.MemoryHandler.{MemoryHandler}
 use Rattle.stage2_range.specs.declared.MemoryHandler.TheVariants.{Absent, FilteredMmio, Fault}
 use Rattle.stage2_range.specs.declared.MemoryReadResult.{MemoryReadResult}
 use Rattle.stage2_range.specs.declared.MemoryReadResult.TheVariants as read
-use Rattle.stage2_range.specs.declared.RegionFound.{RegionFound}
-use Rattle.stage2_range.specs.declared.RegionFound.TheVariants.{Nothing, Match}
 use Rattle.stage2_range.specs.Registry.{find_region}
 use Rattle.exceptions.specs.declared.Core.{Core}
 use Rattle.exceptions.specs.Registers.{advance_pc, read_gpr, read_value, write_gpr}
@@ -28,12 +26,13 @@ use Rattle.data_abort.specs.declared.TrapRegisters.{TrapRegisters}
 use Rattle.data_abort.specs.DataAbort.{iss, access_by, absent_handler, offset_in, page_read, is_read_fault, not_handled, injection_due, word_read, inject_data_abort, handle_data_abort}
 use Rattle.data_abort.specs.CounterLoad.{CounterLoad}
 use Rattle.data_abort.proofs.Laws.{handled, by_cases}
+use Rattle.std.specs.Prelude.{None, Ok, Option, Some}
 
 -- A load of the counter word puts the counter as it was into Rt, and the counter grows by 1 modulo 2^64.
 pub counter_answered : (regions : List MemoryAccessRegion) (core : Core) (counter : ℕ) (trap : TrapRegisters) → CounterLoad regions trap →
     let access = access_by trap in
     handle_data_abort regions core counter trap
-    ≡ answered (AccessHandled Read) (advance_pc (write_gpr core access.register_index (extend_read_result access counter)).core)
+    ≡ answered (Ok (AccessHandled Read)) (advance_pc (write_gpr core access.register_index (extend_read_result access counter)).core)
     ((counter + 1) % 2 ^ 64)
 unfolding injection_due loads_counter
 counter_answered regions core counter trap l =
@@ -70,7 +69,7 @@ module _ (regions : List MemoryAccessRegion) (core : Core) (trap : TrapRegisters
   load_step result after counter =
       let value = extend_read_result access (word_read result) in
       cond (is_read_fault result) (inject_data_abort core counter trap)
-      (answered (AccessHandled Read) (advance_pc (write_gpr core access.register_index value).core) after)
+      (answered (Ok (AccessHandled Read)) (advance_pc (write_gpr core access.register_index value).core) after)
 
   load_steady : (result : MemoryReadResult) (after after' counter counter' : ℕ) → after ≡ counter
       → load_step result after counter
@@ -79,20 +78,20 @@ module _ (regions : List MemoryAccessRegion) (core : Core) (trap : TrapRegisters
   load_steady read.Fault after after' counter counter' e = inject_steady core trap counter counter'
 
   -- the step of a valid syndrome, by the direction and the region found
-  abbrev step_of : MemoryAccessKind → RegionFound → ℕ → TrapStep
+  abbrev step_of : MemoryAccessKind → Option MemoryAccessHandlerMatch → ℕ → TrapStep
   step_of kind found counter =
       let rt = read_value (read_gpr core access.register_index) in
       cond (not_handled kind found access rt counter) (inject_data_abort core counter trap) (handled trap kind (absent_handler kind found) access (offset_in found) core counter)
 
   -- a load through a read handler
   by_handler : isv (iss trap.esr) ≡ true → wnr (iss trap.esr) ≡ false → (m : MemoryAccessHandlerMatch)
-      → find_region regions access.ipa ≡ Match m → (handler : MemoryHandler) → m.region.handler.read ≡ handler
-      → CounterLoad regions trap ⊎ Steady (step_of Read (Match m))
+      → find_region regions access.ipa ≡ Some m → (handler : MemoryHandler) → m.region.handler.read ≡ handler
+      → CounterLoad regions trap ⊎ Steady (step_of Read (Some m))
   unfolding loads_counter
   by_handler v d m f Absent h = inr (rw h (λ counter counter'. refl))
   by_handler v d m f FilteredMmio h = go (loads_counter (page_read access m.offset)) refl
     where
-      go : (b : Bool) → loads_counter (page_read access m.offset) ≡ b → CounterLoad regions trap ⊎ Steady (step_of Read (Match m))
+      go : (b : Bool) → loads_counter (page_read access m.offset) ≡ b → CounterLoad regions trap ⊎ Steady (step_of Read (Some m))
       go true e =
           let both = both_true (is64 access.width) (eqb m.offset 16) e in
           inl (record {
@@ -112,18 +111,18 @@ module _ (regions : List MemoryAccessRegion) (core : Core) (trap : TrapRegisters
           counter counter' kept.1)))
   by_handler v d m f Fault h = inr (rw h (inject_steady core trap))
 
-  by_direction : isv (iss trap.esr) ≡ true → (m : MemoryAccessHandlerMatch) → find_region regions access.ipa ≡ Match m
-      → (write : Bool) → wnr (iss trap.esr) ≡ write → CounterLoad regions trap ⊎ Steady (step_of (kind_of write) (Match m))
+  by_direction : isv (iss trap.esr) ≡ true → (m : MemoryAccessHandlerMatch) → find_region regions access.ipa ≡ Some m
+      → (write : Bool) → wnr (iss trap.esr) ≡ write → CounterLoad regions trap ⊎ Steady (step_of (kind_of write) (Some m))
   by_direction v m f true d =
-      inr (cond_steady (not_handled Write (Match m) access (read_value (read_gpr core access.register_index)) 0)
-      (λ counter. inject_data_abort core counter trap) (λ counter. handled trap Write (absent_handler Write (Match m)) access m.offset core counter)
+      inr (cond_steady (not_handled Write (Some m) access (read_value (read_gpr core access.register_index)) 0)
+      (λ counter. inject_data_abort core counter trap) (λ counter. handled trap Write (absent_handler Write (Some m)) access m.offset core counter)
       (inject_steady core trap) (λ counter counter'. refl))
   by_direction v m f false d = by_handler v d m f m.region.handler.read refl
 
-  by_region : isv (iss trap.esr) ≡ true → (found : RegionFound) → find_region regions access.ipa ≡ found
+  by_region : isv (iss trap.esr) ≡ true → (found : Option MemoryAccessHandlerMatch) → find_region regions access.ipa ≡ found
       → CounterLoad regions trap ⊎ Steady (step_of access.kind found)
-  by_region v Nothing f = inr (inject_steady core trap)
-  by_region v (Match m) f = by_direction v m f (wnr (iss trap.esr)) refl
+  by_region v None f = inr (inject_steady core trap)
+  by_region v (Some m) f = by_direction v m f (wnr (iss trap.esr)) refl
 
   -- the step of any syndrome
   abbrev step_by_syndrome : Bool → ℕ → TrapStep

@@ -6,12 +6,10 @@ use Rattle.bits.proofs.Laws.{replaced-field, replaced_below, replaced_above, rep
 use Rattle.memory_access.specs.declared.MemoryAccess.{MemoryAccess}
 use Rattle.memory_access.specs.declared.MemoryAccessKind.{MemoryAccessKind}
 use Rattle.memory_access.specs.declared.MemoryAccessKind.TheVariants.{Read, Write}
-use Rattle.memory_access.specs.declared.Decoded.TheVariants.{Access, NoSyndrome}
 use Rattle.memory_access.specs.Syndrome.{isv, decode_access}
 use Rattle.memory_access.specs.Transfer.{extend_read_result}
 use Rattle.memory_access.proofs.Laws.{extended_fits, extended_zero}
 use Rattle.stage2_range.specs.declared.MemoryAccessRegion.{MemoryAccessRegion}
-use Rattle.stage2_range.specs.declared.RegionFound.{RegionFound}
 use Rattle.stage2_range.specs.Registry.{find_region}
 use Rattle.exceptions.specs.declared.Core.{Core}
 use Rattle.exceptions.specs.Registers.{advance_pc, read_gpr, read_value, write_gpr}
@@ -20,14 +18,16 @@ use Rattle.exceptions.proofs.InWords.{InWords, in_advanced, in_return, in_writte
 use Rattle.qemu.specs.FilteredMmio.{loads_counter, counter_after, read_filtered_mmio}
 use Rattle.qemu.proofs.Laws.{counter_fits}
 use Rattle.core_answers.specs.declared.CoreError.TheVariants.{NoGuestVector}
-use Rattle.core_answers.specs.declared.TrapAnswer.TheVariants.{AccessHandled, AbortInjected, Refused}
+use Rattle.core_answers.specs.declared.TrapAnswer.TheVariants.{AccessHandled, AbortInjected}
 use Rattle.core_answers.specs.declared.TrapStep.{TrapStep}
 use Rattle.core_answers.specs.Answers.{trap_number, is_forwarded, without_values, refused_trap}
 use Rattle.core_answers.specs.declared.CoreError.{CoreError}
 use Rattle.data_abort.specs.declared.TrapRegisters.{TrapRegisters}
 use Rattle.data_abort.specs.DataAbort.{iss, access_by, absent_handler, offset_in, page_read, not_handled, injection_due, word_read, done, emulate_access, try_memory_access, with_ec, injected, inject_data_abort, step_by, handle_data_abort}
-use Rattle.data_abort.specs.declared.AccessOutcome.{AccessOutcome}
-use Rattle.data_abort.specs.declared.AccessOutcome.TheVariants.{Loaded, Stored, Unhandled}
+use Rattle.data_abort.specs.declared.HandledAccess.{HandledAccess}
+use Rattle.data_abort.specs.declared.HandledAccess.TheVariants.{Loaded, Stored}
+use Rattle.std.specs.Prelude.{Err, None, Ok, Option, Some}
+use Rattle.stage2_range.specs.declared.MemoryAccessHandlerMatch.{MemoryAccessHandlerMatch}
 
 -- "the whole ESR with EC 0x25": bits 31:26 are the class, and all others are as they were
 pub class_replaced : (esr class : ℕ) → class < 2 ^ 6
@@ -36,14 +36,14 @@ class_replaced esr class h = (replaced-field esr 26 6 class h, replaced_below es
 
 -- the step of a handled access
 abbrev pub handled : TrapRegisters → MemoryAccessKind → Bool → MemoryAccess → ℕ → Core → ℕ → TrapStep
-handled trap kind absent access offset core counter = step_by (done kind absent access offset counter) core counter trap
+handled trap kind absent access offset core counter = step_by (Some (done kind absent access offset counter)) core counter trap
 
 -- A data abort goes by what comes of its access: nothing handles it exactly where an injection is due.
 module _ (regions : List MemoryAccessRegion) (core : Core) (counter : ℕ) (trap : TrapRegisters) where
   abbrev access : MemoryAccess
   access = access_by trap
 
-  abbrev found : RegionFound
+  abbrev found : Option MemoryAccessHandlerMatch
   found = find_region regions access.ipa
 
   abbrev absent : Bool
@@ -59,39 +59,39 @@ module _ (regions : List MemoryAccessRegion) (core : Core) (counter : ℕ) (trap
   by_cases = cond_map (λ o. step_by o core counter trap) (injection_due regions core counter trap) _ _
 
   -- what comes of the access, by whether its syndrome is valid
-  abbrev tried_by : Bool → AccessOutcome
+  abbrev tried_by : Bool → Option HandledAccess
   tried_by valid =
-      cond (not valid || not_handled access.kind found access (read_value (read_gpr core access.register_index)) counter) Unhandled
-      (done access.kind absent access (offset_in found) counter)
+      cond (not valid || not_handled access.kind found access (read_value (read_gpr core access.register_index)) counter) None
+      (Some (done access.kind absent access (offset_in found) counter))
 
   -- the access is tried as it is decoded: the region that has its address, and what its register holds, decide
-  pub access_tried : (a : MemoryAccess) → decode_access (iss trap.esr) trap.fipa trap.far ≡ Access a
+  pub access_tried : (a : MemoryAccess) → decode_access (iss trap.esr) trap.fipa trap.far ≡ Some a
       → emulate_access (find_region regions a.ipa) a (read_value (read_gpr core a.register_index)) counter
       ≡ try_memory_access regions core counter trap
   unfolding try_memory_access injection_due emulate_access decode_access
   access_tried a e = go (isv (iss trap.esr)) e
     where
-      go : (valid : Bool) → cond valid (Access access) NoSyndrome ≡ Access a
+      go : (valid : Bool) → cond valid (Some access) None ≡ Some a
           → emulate_access (find_region regions a.ipa) a (read_value (read_gpr core a.register_index)) counter ≡ tried_by valid
       go true e = let same : a ≡ access = cc in rw same
       go false e = let z : ◌≡◌ {A = ℕ} 0 1 = cc in absurd (omega arith)
 
-  pub nothing_tried : decode_access (iss trap.esr) trap.fipa trap.far ≡ NoSyndrome → Unhandled ≡ try_memory_access regions core counter trap
+  pub nothing_tried : decode_access (iss trap.esr) trap.fipa trap.far ≡ None → None ≡ try_memory_access regions core counter trap
   unfolding try_memory_access injection_due decode_access
   nothing_tried e = go (isv (iss trap.esr)) e
     where
-      go : (valid : Bool) → cond valid (Access access) NoSyndrome ≡ NoSyndrome → Unhandled ≡ tried_by valid
+      go : (valid : Bool) → cond valid (Some access) None ≡ None → None ≡ tried_by valid
       go true e = let z : ◌≡◌ {A = ℕ} 0 1 = cc in absurd (omega arith)
       go false e = refl
 
-  handled_answer : (kind : MemoryAccessKind) (absent : Bool) → (handled trap kind absent access (offset_in found) core counter).result.answer ≡ AccessHandled kind
+  handled_answer : (kind : MemoryAccessKind) (absent : Bool) → (handled trap kind absent access (offset_in found) core counter).result.answer ≡ (Ok (AccessHandled kind))
   handled_answer Read true = refl
   handled_answer Read false = refl
   handled_answer Write _ = refl
 
   -- each answer exactly in its case: the abort where an injection is due, 13 where VBAR is 0 then, else the access in its direction
   pub abort_answer : (handle_data_abort regions core counter trap).result.answer
-      ≡ cond (injection_due regions core counter trap) (cond (eqb trap.vbar 0) (Refused NoGuestVector) AbortInjected) (AccessHandled access.kind)
+      ≡ cond (injection_due regions core counter trap) (cond (eqb trap.vbar 0) (Err NoGuestVector) (Ok AbortInjected)) (Ok (AccessHandled access.kind))
   unfolding inject_data_abort
   abort_answer =
       ap (λ (s : TrapStep). s.result.answer) by_cases
@@ -104,7 +104,7 @@ module _ (regions : List MemoryAccessRegion) (core : Core) (counter : ℕ) (trap
       ≡ cond (injection_due regions core counter trap && eqb trap.vbar 0) 13 0
   abort-number = ap trap_number abort_answer ∙ go (injection_due regions core counter trap) (eqb trap.vbar 0)
     where
-      go : (due none : Bool) → trap_number (cond due (cond none (Refused NoGuestVector) AbortInjected) (AccessHandled access.kind)) ≡ cond (due && none) 13 0
+      go : (due none : Bool) → trap_number (cond due (cond none (Err NoGuestVector) (Ok AbortInjected)) (Ok (AccessHandled access.kind))) ≡ cond (due && none) 13 0
       go true true = refl
       go true false = refl
       go false none = refl
@@ -168,7 +168,7 @@ pub abort-not-forwarded : (regions : List MemoryAccessRegion) (core : Core) (cou
 abort-not-forwarded regions core counter trap =
     ap is_forwarded (abort_answer regions core counter trap) ∙ go (injection_due regions core counter trap) (eqb trap.vbar 0)
   where
-    go : (due none : Bool) → is_forwarded (cond due (cond none (Refused NoGuestVector) AbortInjected) (AccessHandled (access_by trap).kind)) ≡ false
+    go : (due none : Bool) → is_forwarded (cond due (cond none (Err NoGuestVector) (Ok AbortInjected)) (Ok (AccessHandled (access_by trap).kind))) ≡ false
     go true true = refl
     go true false = refl
     go false none = refl
@@ -183,10 +183,10 @@ abort-without_values regions core counter trap = go (try_memory_access regions c
     Without : TrapStep → Type 0
     Without step = step.result ≡ without_values step.result.answer
 
-    go : (outcome : AccessOutcome) → Without (step_by outcome core counter trap)
-    go (Loaded index value after) = refl
-    go Stored = refl
-    go Unhandled = cond_all Without (eqb trap.vbar 0) _ _ refl refl
+    go : (outcome : Option HandledAccess) → Without (step_by outcome core counter trap)
+    go (Some (Loaded index value after)) = refl
+    go (Some Stored) = refl
+    go None = cond_all Without (eqb trap.vbar 0) _ _ refl refl
 
 -- A core and a counter that fit words fit after a data abort.
 pub in_aborted : (regions : List MemoryAccessRegion) (core : Core) (counter : ℕ) (trap : TrapRegisters) → InWords core → FitsWord counter

@@ -1,10 +1,9 @@
 -- When a data abort loads the counter word, on any regions. Assumes nothing.
-use Rattle.std.specs.Prelude.{◌≡◌, true, false, List}
+use Rattle.std.specs.Prelude.{◌≡◌, true, false, List, Some}
 use Rattle.memory_access.specs.Syndrome.{isv, sas, wnr, fault_ipa}
 use Rattle.stage2_range.specs.declared.MemoryAccessRegion.{MemoryAccessRegion}
 use Rattle.stage2_range.specs.declared.MemoryAccessHandlerMatch.{MemoryAccessHandlerMatch}
 use Rattle.stage2_range.specs.declared.MemoryHandler.TheVariants.{FilteredMmio}
-use Rattle.stage2_range.specs.declared.RegionFound.TheVariants.{Match}
 use Rattle.stage2_range.specs.Registry.{find_region}
 use Rattle.data_abort.specs.declared.TrapRegisters.{TrapRegisters}
 use Rattle.data_abort.specs.DataAbort.{iss}
@@ -15,6 +14,6 @@ pub record CounterLoad (regions : List MemoryAccessRegion) (trap : TrapRegisters
   pub wnr_clear : wnr (iss trap.esr) ≡ false
   pub sas_3 : sas (iss trap.esr) ≡ 3
   pub found : MemoryAccessHandlerMatch
-  pub is_found : find_region regions (fault_ipa trap.fipa trap.far) ≡ Match found
+  pub is_found : find_region regions (fault_ipa trap.fipa trap.far) ≡ Some found
   pub offset_16 : found.offset ≡ 16
   pub reads_page : found.region.handler.read ≡ FilteredMmio

@@ -1,5 +1,5 @@
 -- A data abort: the access is handled, or the guest gets the abort (document 01, "Trap", EC 0x24). Assumes nothing.
-use Rattle.std.specs.Prelude.{ℕ, ◌+◌, ◌%◌, ◌^◌, Bool, true, false, cond, not, ◌||◌, List, ◌==◌}
+use Rattle.std.specs.Prelude.{ℕ, ◌+◌, ◌%◌, ◌^◌, Bool, true, false, cond, not, ◌||◌, List, ◌==◌, None, Ok, Option, Some}
 use Rattle.memory_access.specs.declared.MemoryAccess.{MemoryAccess}
 use Rattle.memory_access.specs.declared.MemoryAccessKind.{MemoryAccessKind}
 use Rattle.memory_access.specs.declared.MemoryAccessKind.TheVariants.{Read, Write}
@@ -16,8 +16,6 @@ use Rattle.stage2_range.specs.declared.MemoryReadResult.TheVariants as read
 use Rattle.stage2_range.specs.declared.MemoryWriteAccess.{MemoryWriteAccess}
 use Rattle.stage2_range.specs.declared.MemoryWriteResult.{MemoryWriteResult}
 use Rattle.stage2_range.specs.declared.MemoryWriteResult.TheVariants as write
-use Rattle.stage2_range.specs.declared.RegionFound.{RegionFound}
-use Rattle.stage2_range.specs.declared.RegionFound.TheVariants.{Nothing, Match}
 use Rattle.stage2_range.specs.Handlers.{same_handler}
 use Rattle.stage2_range.specs.Registry.{find_region}
 use Rattle.exceptions.specs.declared.Core.{Core}
@@ -27,8 +25,8 @@ use Rattle.core_answers.specs.declared.TrapStep.{TrapStep}
 use Rattle.core_answers.specs.Answers.{answered, refused_trap}
 use Rattle.exceptions.specs.Registers.{advance_pc, read_gpr, read_value, with_return, write_gpr}
 use Rattle.qemu.specs.FilteredMmio.{read_filtered_mmio, write_filtered_mmio}
-use Rattle.data_abort.specs.declared.AccessOutcome.{AccessOutcome}
-use Rattle.data_abort.specs.declared.AccessOutcome.TheVariants.{Loaded, Stored, Unhandled}
+use Rattle.data_abort.specs.declared.HandledAccess.{HandledAccess}
+use Rattle.data_abort.specs.declared.HandledAccess.TheVariants.{Loaded, Stored}
 use Rattle.data_abort.specs.declared.Injection.{Injection}
 use Rattle.data_abort.specs.declared.TrapRegisters.{TrapRegisters}
 
@@ -47,9 +45,9 @@ abbrev pub no_isv : TrapRegisters → Bool
 no_isv trap = not (isv (iss trap.esr))
 
 -- where in the region found the address is
-abbrev pub offset_in : RegionFound → ℕ
-offset_in Nothing = 0
-offset_in (Match found) = found.offset
+abbrev pub offset_in : Option MemoryAccessHandlerMatch → ℕ
+offset_in None = 0
+offset_in (Some found) = found.offset
 
 -- "the half for the direction" (a half is a handler here)
 abbrev pub handler_for : MemoryAccessKind → MemoryAccessHandlerMatch → MemoryHandler
@@ -57,9 +55,9 @@ handler_for Read found = found.region.handler.read
 handler_for Write found = found.region.handler.write
 
 -- the region found has "an absent half" for the direction
-abbrev pub absent_handler : MemoryAccessKind → RegionFound → Bool
-absent_handler kind Nothing = false
-absent_handler kind (Match found) = same_handler Absent (handler_for kind found)
+abbrev pub absent_handler : MemoryAccessKind → Option MemoryAccessHandlerMatch → Bool
+absent_handler kind None = false
+absent_handler kind (Some found) = same_handler Absent (handler_for kind found)
 
 -- what the page is asked: a load, or "a store of Rt's low bits at the access width"
 abbrev pub page_read : MemoryAccess → ℕ → MemoryReadAccess
@@ -89,9 +87,9 @@ faults_through FilteredMmio device = device
 faults_through Fault device = true
 
 -- "no region", or a fault through the half for the direction, where Rt holds `rt`
-abbrev pub not_handled : MemoryAccessKind → RegionFound → MemoryAccess → ℕ → ℕ → Bool
-not_handled kind Nothing access rt counter = true
-not_handled kind (Match found) access rt counter = faults_through (handler_for kind found) (device_fault kind access found.offset rt counter)
+abbrev pub not_handled : MemoryAccessKind → Option MemoryAccessHandlerMatch → MemoryAccess → ℕ → ℕ → Bool
+not_handled kind None access rt counter = true
+not_handled kind (Some found) access rt counter = faults_through (handler_for kind found) (device_fault kind access found.offset rt counter)
 
 -- "No ISV, no region", half 2 for the direction "or a device fault injects"
 unfoldable pub injection_due : List MemoryAccessRegion → Core → ℕ → TrapRegisters → Bool
@@ -106,7 +104,7 @@ word_read (read.Value word) = word
 word_read read.Fault = 0
 
 -- a handled access: what Rt takes of a load, and the counter then. "a load through an absent half gives 0 and a store is dropped"
-abbrev pub done : MemoryAccessKind → Bool → MemoryAccess → ℕ → ℕ → AccessOutcome
+abbrev pub done : MemoryAccessKind → Bool → MemoryAccess → ℕ → ℕ → HandledAccess
 done Read absent access offset counter =
     let got = read_filtered_mmio (page_read access offset) counter in
     cond absent (Loaded access.register_index 0 counter)
@@ -114,23 +112,25 @@ done Read absent access offset counter =
 done Write absent access offset counter = Stored
 
 -- what comes of an access through a handler
-unfoldable pub through : MemoryAccessKind → MemoryHandler → MemoryAccess → ℕ → ℕ → ℕ → AccessOutcome
+unfoldable pub through : MemoryAccessKind → MemoryHandler → MemoryAccess → ℕ → ℕ → ℕ → Option HandledAccess
 through kind handler access offset rt counter =
-    cond (faults_through handler (device_fault kind access offset rt counter)) Unhandled (done kind (same_handler Absent handler) access offset counter)
+    cond (faults_through handler (device_fault kind access offset rt counter)) None
+    (Some (done kind (same_handler Absent handler) access offset counter))
 
 -- the same by the region found for it
-unfoldable pub emulate_access : RegionFound → MemoryAccess → ℕ → ℕ → AccessOutcome
+unfoldable pub emulate_access : Option MemoryAccessHandlerMatch → MemoryAccess → ℕ → ℕ → Option HandledAccess
 emulate_access found access rt counter =
     let kind = access.kind in
-    cond (not_handled kind found access rt counter) Unhandled (done kind (absent_handler kind found) access (offset_in found) counter)
+    cond (not_handled kind found access rt counter) None
+    (Some (done kind (absent_handler kind found) access (offset_in found) counter))
 
 -- the same by the regions that are held and what the hardware says
-unfoldable pub try_memory_access : List MemoryAccessRegion → Core → ℕ → TrapRegisters → AccessOutcome
+unfoldable pub try_memory_access : List MemoryAccessRegion → Core → ℕ → TrapRegisters → Option HandledAccess
 try_memory_access regions core counter trap =
     let access = access_by trap in
     let found = find_region regions access.ipa in
-    cond (injection_due regions core counter trap) Unhandled
-    (done access.kind (absent_handler access.kind found) access (offset_in found) counter)
+    cond (injection_due regions core counter trap) None
+    (Some (done access.kind (absent_handler access.kind found) access (offset_in found) counter))
 
 -- a syndrome with another exception class, bits 31:26, and its other bits
 abbrev pub with_ec : ℕ → ℕ → ℕ
@@ -154,14 +154,14 @@ injected core trap =
 -- 13: "an injection is due and VBAR is 0"
 unfoldable pub inject_data_abort : Core → ℕ → TrapRegisters → TrapStep
 inject_data_abort core counter trap =
-    cond (trap.vbar == 0) (refused_trap NoGuestVector core counter) (answered AbortInjected (injected core trap) counter)
+    cond (trap.vbar == 0) (refused_trap NoGuestVector core counter) (answered (Ok AbortInjected) (injected core trap) counter)
 
 -- "A handled access writes Rt (loads) and ELR grows by 4 modulo 2^64"; else the abort is injected
-abbrev pub step_by : AccessOutcome → Core → ℕ → TrapRegisters → TrapStep
-step_by (Loaded register value after) core counter trap =
-    answered (AccessHandled Read) (advance_pc (write_gpr core register value).core) after
-step_by Stored core counter trap = answered (AccessHandled Write) (advance_pc core) counter
-step_by Unhandled core counter trap = inject_data_abort core counter trap
+abbrev pub step_by : Option HandledAccess → Core → ℕ → TrapRegisters → TrapStep
+step_by (Some (Loaded register value after)) core counter trap =
+    answered (Ok (AccessHandled Read)) (advance_pc (write_gpr core register value).core) after
+step_by (Some Stored) core counter trap = answered (Ok (AccessHandled Write)) (advance_pc core) counter
+step_by None core counter trap = inject_data_abort core counter trap
 
 -- the data abort of one core, by the regions that are held
 unfoldable pub handle_data_abort : List MemoryAccessRegion → Core → ℕ → TrapRegisters → TrapStep

@@ -2,19 +2,18 @@
 
 #![tactic(auto)]
 
-ghost use Rattle.std.specs.Prelude.{◌≡◌};
+ghost use Rattle.std.specs.Prelude.{◌≡◌, Some};
 ghost use Rattle.lists.specs.Lists.{held};
 ghost use Rattle.memory_access.specs.declared.MemoryAccessKind.TheVariants.{Read, Write};
 ghost use Rattle.memory_access.specs.Syndrome.{decode_access};
-ghost use Rattle.stage2_range.specs.declared.RegionFound.TheVariants.{Match};
 ghost use Rattle.data_abort.specs.DataAbort.{iss, through, emulate_access, try_memory_access, with_ec, injection_of, inject_data_abort, handle_data_abort};
 
 use core_answers::{CoreError, TrapAnswer, TrapStep};
 use exceptions::{Core, FaultRegisters};
-use memory_access::{Decoded, Fipa, MemoryAccess, MemoryAccessKind};
+use memory_access::{Fipa, MemoryAccess, MemoryAccessKind};
 use stage2_range::{
     MemoryAccessHandlerMatch, MemoryAccessRegion, MemoryHandler, MemoryReadAccess,
-    MemoryReadResult, MemoryWriteAccess, MemoryWriteResult, RegionFound,
+    MemoryReadResult, MemoryWriteAccess, MemoryWriteResult,
 };
 
 // What the hardware says of a trap: ESR_EL2, the FIPA of HPFAR_EL2, FAR_EL2, and the guest's VBAR_EL1.
@@ -26,13 +25,12 @@ pub struct TrapRegisters {
     pub vbar: u64,
 }
 
-// What comes of the access that a data abort describes.
+// What a handled access does.
 #[derive(Clone, Copy)]
-pub enum AccessOutcome {
+pub enum HandledAccess {
     // A load: its register, what that takes, and the counter then.
     Loaded(usize, u64, u64),
     Stored,
-    Unhandled,
 }
 
 // A data abort of one core, by the regions that are held.
@@ -47,21 +45,20 @@ pub fn handle_data_abort(
     ensures { result ≡ handle_data_abort (held 16 region_count regions) core counter trap }
 {
     match try_memory_access_handler(regions, region_count, core, counter, trap) {
-        AccessOutcome::Loaded(register_index, value, after) => {
-            let written = core.write_gpr(register_index, value);
-            let loaded = written.core;
+        Some(HandledAccess::Loaded(register_index, value, after)) => {
+            let loaded = core.write_gpr(register_index, value).core;
             TrapStep::answered(
-                TrapAnswer::AccessHandled(MemoryAccessKind::Read),
+                Ok(TrapAnswer::AccessHandled(MemoryAccessKind::Read)),
                 loaded.advance_pc(),
                 after,
             )
         }
-        AccessOutcome::Stored => TrapStep::answered(
-            TrapAnswer::AccessHandled(MemoryAccessKind::Write),
+        Some(HandledAccess::Stored) => TrapStep::answered(
+            Ok(TrapAnswer::AccessHandled(MemoryAccessKind::Write)),
             core.advance_pc(),
             counter,
         ),
-        AccessOutcome::Unhandled => inject_data_abort(core, counter, trap),
+        None => inject_data_abort(core, counter, trap),
     }
 }
 
@@ -72,46 +69,37 @@ fn try_memory_access_handler(
     core: Core,
     counter: u64,
     trap: TrapRegisters,
-) -> AccessOutcome
+) -> Option<HandledAccess>
     ensures { result ≡ try_memory_access (held 16 region_count regions) core counter trap }
 {
-    match decode_abort(trap) {
-        Decoded::Access(access) => {
-            let ipa = access.ipa;
-            let rt = core.read_gpr(access.register_index).value();
-            let found = stage2_range::find_region(regions, region_count, ipa);
-            emulate_access(found, access, rt, counter)
-        }
-        Decoded::NoSyndrome => AccessOutcome::Unhandled,
-    }
+    let access = decode_abort(trap)?;
+    let rt = core.read_gpr(access.register_index).unwrap_or(0);
+    let found = stage2_range::find_region(regions, region_count, access.ipa);
+    emulate_access(found, access, rt, counter)
 }
 
 // ESR_EL2's ISS, bits 24:0 (Arm DDI 0601).
 const ESR_ISS_MASK: u64 = 0x1FF_FFFF;
 
 // The access that a data abort's syndrome describes.
-pub fn decode_abort(trap: TrapRegisters) -> Decoded
+pub fn decode_abort(trap: TrapRegisters) -> Option<MemoryAccess>
     ensures { result ≡ decode_access (iss trap.esr) trap.fipa trap.far }
 {
     let iss = (trap.esr & ESR_ISS_MASK) as u32;
-    let fipa = trap.fipa;
-    MemoryAccess::decode(iss, fipa, trap.far)
+    MemoryAccess::decode(iss, trap.fipa, trap.far)
 }
 
-// What the access comes to, by the region that has its address and by what its register holds.
+// What the access does, by the region that has its address and by what its register holds; `None` where it is not handled.
 #[tactic(auto, unfolding(crate::specs::DataAbort::emulate_access))]
 pub fn emulate_access(
-    found: RegionFound,
+    found: Option<MemoryAccessHandlerMatch>,
     access: MemoryAccess,
     rt: u64,
     counter: u64,
-) -> AccessOutcome
+) -> Option<HandledAccess>
     ensures { result ≡ emulate_access found access rt counter }
 {
-    match found {
-        RegionFound::Match(m) => access_in(m, access, rt, counter),
-        RegionFound::Nothing => AccessOutcome::Unhandled,
-    }
+    access_in(found?, access, rt, counter)
 }
 
 // The access to a region, through the handler for its direction.
@@ -121,21 +109,13 @@ fn access_in(
     access: MemoryAccess,
     rt: u64,
     counter: u64,
-) -> AccessOutcome
-    ensures { result ≡ emulate_access (Match found) access rt counter }
+) -> Option<HandledAccess>
+    ensures { result ≡ emulate_access (Some found) access rt counter }
 {
-    let region = found.region;
-    let handler = region.handler;
-    let kind = access.kind;
-    match kind {
-        MemoryAccessKind::Read => {
-            let read = handler.read;
-            read_through(read, access, found.offset, counter)
-        }
-        MemoryAccessKind::Write => {
-            let write = handler.write;
-            write_through(write, access, found.offset, rt)
-        }
+    let handler = found.region.handler;
+    match access.kind {
+        MemoryAccessKind::Read => read_through(handler.read, access, found.offset, counter),
+        MemoryAccessKind::Write => write_through(handler.write, access, found.offset, rt),
     }
 }
 
@@ -145,26 +125,29 @@ fn read_through(
     access: MemoryAccess,
     offset: u64,
     counter: u64,
-) -> AccessOutcome
+) -> Option<HandledAccess>
     ensures { result ≡ through Read handler access offset 0 counter }
 {
-    let ipa = access.ipa;
-    let width = access.width;
+    let register_index = access.register_index;
     match handler {
-        MemoryHandler::Absent => AccessOutcome::Loaded(access.register_index, 0, counter),
+        MemoryHandler::Absent => Some(HandledAccess::Loaded(register_index, 0, counter)),
         MemoryHandler::FilteredMmio => {
-            let read = qemu::read_filtered_mmio(MemoryReadAccess { ipa, offset, width }, counter);
-            let result = read.result;
-            match result {
-                MemoryReadResult::Value(value) => AccessOutcome::Loaded(
-                    access.register_index,
+            let asked = MemoryReadAccess {
+                ipa: access.ipa,
+                offset,
+                width: access.width,
+            };
+            let read = qemu::read_filtered_mmio(asked, counter);
+            match read.result {
+                MemoryReadResult::Value(value) => Some(HandledAccess::Loaded(
+                    register_index,
                     access.extend_read_result(value),
                     read.counter,
-                ),
-                MemoryReadResult::Fault => AccessOutcome::Unhandled,
+                )),
+                MemoryReadResult::Fault => None,
             }
         }
-        MemoryHandler::Fault => AccessOutcome::Unhandled,
+        MemoryHandler::Fault => None,
     }
 }
 
@@ -174,27 +157,24 @@ fn write_through(
     access: MemoryAccess,
     offset: u64,
     rt: u64,
-) -> AccessOutcome
+) -> Option<HandledAccess>
     ensures { result ≡ through Write handler access offset rt 0 }
 {
-    let ipa = access.ipa;
-    let width = access.width;
     match handler {
-        MemoryHandler::Absent => AccessOutcome::Stored,
+        MemoryHandler::Absent => Some(HandledAccess::Stored),
         MemoryHandler::FilteredMmio => {
-            let value = access.store_value(rt);
             let write = MemoryWriteAccess {
-                ipa,
+                ipa: access.ipa,
                 offset,
-                width,
-                value,
+                width: access.width,
+                value: access.store_value(rt),
             };
             match qemu::write_filtered_mmio(write) {
-                MemoryWriteResult::Handled => AccessOutcome::Stored,
-                MemoryWriteResult::Fault => AccessOutcome::Unhandled,
+                MemoryWriteResult::Handled => Some(HandledAccess::Stored),
+                MemoryWriteResult::Fault => None,
             }
         }
-        MemoryHandler::Fault => AccessOutcome::Unhandled,
+        MemoryHandler::Fault => None,
     }
 }
 
@@ -216,16 +196,15 @@ const SPSR_MASKED_EL1H: u64 = 0x3C5;
 pub fn injection_of(elr: u64, spsr: u64, trap: TrapRegisters) -> Injection
     ensures { result ≡ injection_of elr spsr trap }
 {
-    let el1 = FaultRegisters {
-        elr,
-        spsr,
-        far: trap.far,
-        esr: same_el_syndrome(trap.esr),
-    };
     Injection {
         elr: std::num::wrapping_add_u64(trap.vbar, SYNC_SPX_OFFSET),
         spsr: SPSR_MASKED_EL1H,
-        el1,
+        el1: FaultRegisters {
+            elr,
+            spsr,
+            far: trap.far,
+            esr: same_el_syndrome(trap.esr),
+        },
     }
 }
 
@@ -236,18 +215,14 @@ fn inject_data_abort(core: Core, counter: u64, trap: TrapRegisters) -> TrapStep
     if trap.vbar == 0 {
         return TrapStep::refused(CoreError::NoGuestVector, core, counter);
     }
-    let x = core.x;
-    let wait = core.wait;
     let to = injection_of(core.elr, core.spsr, trap);
-    let el1 = to.el1;
     let next = Core {
-        x,
         elr: to.elr,
         spsr: to.spsr,
-        el1,
-        wait,
+        el1: to.el1,
+        ..core
     };
-    TrapStep::answered(TrapAnswer::AbortInjected, next, counter)
+    TrapStep::answered(Ok(TrapAnswer::AbortInjected), next, counter)
 }
 
 const ESR_EC_SHIFT: u64 = 26;
@@ -260,6 +235,5 @@ const EC_DATA_ABORT_SAME_EL: u64 = 0x25;
 fn same_el_syndrome(esr: u64) -> u64
     ensures { result ≡ with_ec esr 0x25 }
 {
-    (esr & (0xFFFF_FFFF_FFFF_FFFF - (ESR_EC_MASK << ESR_EC_SHIFT)))
-        | (EC_DATA_ABORT_SAME_EL << ESR_EC_SHIFT)
+    (esr & !(ESR_EC_MASK << ESR_EC_SHIFT)) | (EC_DATA_ABORT_SAME_EL << ESR_EC_SHIFT)
 }

@@ -2,9 +2,9 @@
 use Rattle.std.proofs.Common.{◌≡◌, ℕ, ◌<◌, ◌≤◌, Bool, true, false, eqb, ltb, length, refl, arith, length-set, get_or-set_other, get_or-set_same, ltb-false, le-ltb, lt-ltb, eq-eqb, ne_eqb}
 use Rattle.lists.proofs.Laws.{cond_all}
 use Rattle.exceptions.specs.declared.Core.{Core}
-use Rattle.exceptions.specs.declared.GprRead.TheVariants.{Value}
 use Rattle.exceptions.specs.declared.GprWritten.{GprWritten}
 use Rattle.exceptions.specs.Registers.{with_registers, read_gpr, read_number, read_value, write_gpr, write_number}
+use Rattle.std.specs.Prelude.{Some}
 
 -- Both calls are refused, with 17, exactly where the index is above 31; a refusal has no value and leaves the core as it was.
 module _ (core : Core) (index value : ℕ) where
@@ -28,7 +28,7 @@ module _ (core : Core) (index value : ℕ) where
 
 -- What was written is read, and no other register changed.
 module _ (core : Core) (index value : ℕ) (within : index < 31) where
-  pub read-written : index < length core.x → read_gpr (write_gpr core index value).core index ≡ Value value
+  pub read-written : index < length core.x → read_gpr (write_gpr core index value).core index ≡ Some value
   unfolding read_gpr write_gpr with_registers
   read-written h = rw (lt-ltb index 31 within, get_or-set_same core.x index value 0 h)
 

@@ -3,7 +3,9 @@
 #![tactic(auto)]
 
 ghost use Rattle.std.specs.Prelude.{◌≡◌};
-ghost use Rattle.exceptions.specs.Registers.{fresh_core, next_instruction, advance_pc, read_gpr, read_number, read_value, write_gpr, write_number};
+ghost use Rattle.exceptions.specs.Registers.{fresh_core, next_instruction, advance_pc, read_gpr, read_number, read_value, write_gpr, write_error_number};
+
+use lists::refusal::{self, Refusal};
 
 // How a call left the guest: the SMCCC's conduit.
 #[derive(Clone, Copy)]
@@ -19,12 +21,8 @@ pub enum Recipient {
     Platform,
 }
 
-// What a core waits for.
-#[derive(Clone, Copy)]
-pub enum Wait {
-    Nothing,
-    Call(Conduit, Recipient),
-}
+// What a core waits for: nothing, or a call by a conduit to a recipient.
+pub type Wait = Option<(Conduit, Recipient)>;
 
 // The EL1 registers that an injected abort writes.
 #[derive(Clone, Copy)]
@@ -45,59 +43,37 @@ pub struct Core {
     pub wait: Wait,
 }
 
-// What `read_gpr` answers.
+// A write to no register of the guest's.
 #[derive(Clone, Copy)]
-pub enum GprRead {
-    Value(u64),
-    NoSuchRegister,
+pub struct GuestRegisterWriteError;
+
+impl Refusal for GuestRegisterWriteError {
+    ghost number_of = { write_error_number };
+
+    fn number(self) -> u64 {
+        17
+    }
 }
 
-// What `write_gpr` answers.
-#[derive(Clone, Copy)]
-pub enum GprWrite {
-    Accepted,
-    GuestRegisterWriteError,
+// The number of a read's answer in the table of refusals: 17 where there is no such register. (As `decoded_number`.)
+pub fn read_number(read: Option<u64>) -> u64
+    ensures { result ≡ read_number read }
+{
+    refusal::missing_number(read, 17)
 }
 
-// The answer, and the core then.
+// The value that was read, 0 where there is none.
+pub fn read_value(read: Option<u64>) -> u64
+    ensures { result ≡ read_value read }
+{
+    read.unwrap_or(0)
+}
+
+// The answer, and the core then. (No `Result<Core, _>`: that a refused write leaves the core is said of the core that it gives.)
 #[derive(Clone, Copy)]
 pub struct GprWritten {
-    pub answer: GprWrite,
+    pub answer: Result<(), GuestRegisterWriteError>,
     pub core: Core,
-}
-
-impl GprRead {
-    // The answer's number in the table of refusals.
-    pub fn number(self) -> u64
-        ensures { result ≡ read_number self }
-    {
-        match self {
-            GprRead::Value(_) => 0,
-            GprRead::NoSuchRegister => 17,
-        }
-    }
-
-    // The value that was read, 0 where there is none.
-    pub fn value(self) -> u64
-        ensures { result ≡ read_value self }
-    {
-        match self {
-            GprRead::Value(value) => value,
-            GprRead::NoSuchRegister => 0,
-        }
-    }
-}
-
-impl GprWrite {
-    // The answer's number in the table of refusals.
-    pub fn number(self) -> u64
-        ensures { result ≡ write_number self }
-    {
-        match self {
-            GprWrite::Accepted => 0,
-            GprWrite::GuestRegisterWriteError => 17,
-        }
-    }
 }
 
 const AARCH64_INSTRUCTION_LENGTH: u64 = 4;
@@ -111,21 +87,21 @@ pub fn next_instruction(elr: u64) -> u64
 
 impl Core {
     // The fresh core: all zero, waiting for nothing.
+    #[tactic(auto, unfolding(crate::specs::Registers::fresh_core))]
     pub fn fresh() -> Self
         ensures { result ≡ fresh_core }
     {
-        let el1 = FaultRegisters {
-            elr: 0,
-            spsr: 0,
-            far: 0,
-            esr: 0,
-        };
         Core {
             x: [0u64; 31],
             elr: 0,
             spsr: 0,
-            el1,
-            wait: Wait::Nothing,
+            el1: FaultRegisters {
+                elr: 0,
+                spsr: 0,
+                far: 0,
+                esr: 0,
+            },
+            wait: None,
         }
     }
 
@@ -134,20 +110,21 @@ impl Core {
     pub fn advance_pc(self) -> Self
         ensures { result ≡ advance_pc self }
     {
-        let mut core = self;
-        core.elr = next_instruction(self.elr);
-        core
+        Core {
+            elr: next_instruction(self.elr),
+            ..self
+        }
     }
 
     // The value of guest register `index`.
     #[tactic(auto, unfolding(crate::specs::Registers::read_gpr))]
-    pub fn read_gpr(self, index: usize) -> GprRead
+    pub fn read_gpr(self, index: usize) -> Option<u64>
         ensures { result ≡ read_gpr self index }
     {
         match index {
-            0..=30 => GprRead::Value(self.x[index]),
-            31 => GprRead::Value(0),
-            _ => GprRead::NoSuchRegister,
+            0..=30 => Some(self.x[index]),
+            31 => Some(0),
+            _ => None,
         }
     }
 
@@ -156,40 +133,34 @@ impl Core {
     pub fn write_gpr(self, index: usize, value: u64) -> GprWritten
         ensures { result ≡ write_gpr self index value }
     {
-        match index {
+        let mut core = self;
+        let answer = match index {
             0..=30 => {
-                let mut core = self;
                 core.x[index] = value;
-                GprWritten {
-                    answer: GprWrite::Accepted,
-                    core,
-                }
+                Ok(())
             }
-            31 => GprWritten {
-                answer: GprWrite::Accepted,
-                core: self,
-            },
-            _ => GprWritten {
-                answer: GprWrite::GuestRegisterWriteError,
-                core: self,
-            },
-        }
+            31 => Ok(()),
+            _ => Err(GuestRegisterWriteError),
+        };
+        GprWritten { answer, core }
     }
 }
 
 // The same on a core record that is lent: the record is copied out, written by value and put back.
-pub fn write_gpr_lent(core: &mut Core, index: usize, value: u64) -> GprWrite
+pub fn write_gpr_lent(
+    core: &mut Core,
+    index: usize,
+    value: u64,
+) -> Result<(), GuestRegisterWriteError>
     ensures { (result ≡ (write_gpr core.old index value).answer)
         × (core.new ≡ (write_gpr core.old index value).core) }
 {
-    let before = *core;
-    let written = before.write_gpr(index, value);
-    let after = written.core;
-    *core = after;
+    let written = core.write_gpr(index, value);
+    *core = written.core;
     written.answer
 }
 
-// The lent form on a record of one's own: its callers hold no reference to a struct.
+// The lent form on a record of one's own. (It stays beside `write_gpr_lent`: recorded calls are made by it, and each recorded answer compared.)
 pub fn write_gpr_by_loan(core: Core, index: usize, value: u64) -> GprWritten
     ensures { result ≡ write_gpr core index value }
 {

@@ -1,46 +1,40 @@
 -- Laws of the loops, by places of a list. Assumes nothing.
-use Rattle.std.proofs.Common.{◌≡◌, ℕ, zero, suc, ◌+◌, ◌-◌, ◌*◌, ◌/◌, ◌<◌, ◌≤◌, Bool, true, false, cond, ltb, List, [], ◌∷◌, ◌++◌, length, drop, sym, refl, ap, ◌∙◌, subst, sub-one, arith, length-drop, ltb-false}
+use Rattle.std.proofs.Common.{◌≡◌, ℕ, zero, suc, ◌+◌, ◌-◌, ◌*◌, ◌/◌, ◌<◌, ◌≤◌, Bool, true, false, cond, List, [], ◌∷◌, ◌++◌, length, drop, sym, refl, ap, ◌∙◌, sub-one, arith, length-drop}
 use Rattle.fdt_tokens.specs.Devicetree.{Pair}
-use Rattle.fdt_tokens.specs.Lex.{is_done, is_token, lex_word, Reading, put, read}
+use Rattle.std.specs.Prelude.{Option, None, Some, is_some, Err}
+use Rattle.fdt_tokens.specs.Lex.{is_done, lex_word, Reading, put, read}
 use Rattle.fdt_tokens.specs.declared.Lexer.{Lexer}
 use Rattle.fdt_tokens.specs.declared.Lexed.{Lexed}
 use Rattle.fdt_tokens.specs.declared.Lexer.TheVariants.{Broken}
 use Rattle.fdt_tokens.specs.declared.Event.{Event}
-use Rattle.fdt_tokens.specs.declared.Event.TheVariants.{Nothing, Begin, EndNode, Prop, End}
 use Rattle.fdt_tokens.proofs.Laws.{impossible, drop-end, drop_four}
 use Rattle.fdt_tokens.proofs.Lexing.{put_lexer}
 use Rattle.fdt_nodes.specs.Nodes.{advance, pair_bytes}
 use Rattle.fdt_nodes.specs.Scan.{judged, at_pair}
-use Rattle.fdt_nodes.specs.declared.Verdict.TheVariants.{Invalid}
+use Rattle.fdt_nodes.specs.declared.DevicetreeError.TheVariants.{Invalid}
 use Rattle.fdt_nodes.proofs.Laws.{whole}
 use Rattle.fdt.specs.Passes.{lex_at, folded, pair_of, pairs_at, reg_pairs, pairs_met, pairs_from, left_in, handed}
 use Rattle.fdt.specs.Blob.{zero_entry, list_ends, block_of, strings_of, inside_of, pairs_left}
 use Rattle.fdt_nodes.specs.declared.Nodes.{Nodes}
 use Rattle.fdt_nodes.specs.declared.Scan.{Scan}
 use Rattle.fdt.specs.declared.Walk.{Walk}
-use Rattle.fdt.specs.declared.Handed.{Handed}
+use Rattle.fdt.specs.declared.Next.{Next}
 use Rattle.fdt.specs.declared.Found.{Found}
 use Rattle.fdt.specs.declared.Cursor.{Cursor}
 
 module _ (B S : List ℕ) where
   -- one token, or none
-  put-folded : (e : Event) (i : ℕ) (n : Nodes) (r : Reading) → folded B S n (put e i r).tokens ≡ folded B S (advance B S i n e) r.tokens
+  put-folded : (e : Option Event) (i : ℕ) (n : Nodes) (r : Reading) → folded B S n (put e i r).tokens ≡ folded B S (advance B S i n e) r.tokens
   unfolding put folded advance
-  put-folded Nothing i n r = refl
-  put-folded Begin i n r = refl
-  put-folded EndNode i n r = refl
-  put-folded (Prop w o) i n r = refl
-  put-folded End i n r = refl
+  put-folded None i n r = refl
+  put-folded (Some e) i n r = refl
 
-  put_pairs : (e : Event) (i : ℕ) (n : Nodes) (r : Reading)
+  put_pairs : (e : Option Event) (i : ℕ) (n : Nodes) (r : Reading)
       → pairs_met B S n (put e i r).tokens
       ≡ cond (at_pair e (advance B S i n e)) (reg_pairs B (advance B S i n e) ++ pairs_met B S (advance B S i n e) r.tokens) (pairs_met B S (advance B S i n e) r.tokens)
   unfolding put pairs_met advance at_pair
-  put_pairs Nothing i n r = refl
-  put_pairs Begin i n r = refl
-  put_pairs EndNode i n r = refl
-  put_pairs (Prop w o) i n r = refl
-  put_pairs End i n r = refl
+  put_pairs None i n r = refl
+  put_pairs (Some e) i n r = refl
 
 -- four bytes are read; none; one to three are no token
 read_four : (x : Lexer) (i a b c d : ℕ) (l : List ℕ)
@@ -61,21 +55,15 @@ read_cut x i (a ∷ b ∷ c ∷ []) h k = refl
 read_cut x i (a ∷ b ∷ c ∷ d ∷ l) h k = absurd (omega arith)
 
 -- a word that completes no token changes nothing, and ends no child
-no_token : (B S : List ℕ) (i : ℕ) (n : Nodes) (e : Event) → is_token e ≡ false → advance B S i n e ≡ n
-unfolding is_token advance
-no_token B S i n Nothing h = refl
-no_token B S i n Begin h = impossible (sym h)
-no_token B S i n EndNode h = impossible (sym h)
-no_token B S i n (Prop w o) h = impossible (sym h)
-no_token B S i n End h = impossible (sym h)
+no_token : (B S : List ℕ) (i : ℕ) (n : Nodes) (e : Option Event) → is_some e ≡ false → advance B S i n e ≡ n
+unfolding advance
+no_token B S i n None h = refl
+no_token B S i n (Some e) h = impossible (sym h)
 
-no_hit : (e : Event) (n : Nodes) → is_token e ≡ false → at_pair e n ≡ false
-unfolding is_token at_pair
-no_hit Nothing n h = refl
-no_hit Begin n h = impossible (sym h)
-no_hit EndNode n h = impossible (sym h)
-no_hit (Prop w o) n h = impossible (sym h)
-no_hit End n h = impossible (sym h)
+no_hit : (e : Option Event) (n : Nodes) → is_some e ≡ false → at_pair e n ≡ false
+unfolding at_pair
+no_hit None n h = refl
+no_hit (Some e) n h = impossible (sym h)
 
 -- the bytes from a place on that has four
 read_at : (B : List ℕ) (x : Lexer) (i : ℕ) → i + 4 ≤ length B
@@ -90,16 +78,17 @@ pub record ScanLeft (B S : List ℕ) (i : ℕ) (y : Lexer) (n : Nodes) (x : Lexe
 
 module _ {B S : List ℕ} {i : ℕ} {y : Lexer} {n : Nodes} {x : Lexer} {m : Nodes} (inv : ScanLeft B S i y n x m) where
   -- four bytes
-  pub scan_step : i + 4 ≤ length B → (l : Lexed) → l ≡ lex_at y B i → ScanLeft B S (i + 4) l.lexer (advance B S (i + 4) n l.event) x m
-  scan_step h l e = subst (λ l. ScanLeft B S (i + 4) l.lexer (advance B S (i + 4) n l.event) x m) (sym e) (record {
+  pub scan_step : i + 4 ≤ length B → (j : ℕ) → j ≡ i + 4 → (l : Lexed) → l ≡ lex_at y B i → (k : Nodes) → k ≡ advance B S (i + 4) n l.event
+      → ScanLeft B S j l.lexer k x m
+  scan_step h j q l e k f = rw (q, f, e) (record {
     within = h;
     lexer = sym (put_lexer _ _ _) ∙ (ap (λ r. r.lexer) (sym (read_at B y i h)) ∙ inv.lexer);
     nodes = sym (put-folded B S _ _ _ _) ∙ (ap (λ r. folded B S n r.tokens) (sym (read_at B y i h)) ∙ inv.nodes);
   })
 
   -- four bytes that complete no token
-  pub scan_skip : i + 4 ≤ length B → (l : Lexed) → l ≡ lex_at y B i → is_token l.event ≡ false → ScanLeft B S (i + 4) l.lexer n x m
-  scan_skip h l e k = subst (λ t. ScanLeft B S (i + 4) l.lexer t x m) (no_token B S (i + 4) n l.event k) (scan_step h l e)
+  pub scan_skip : i + 4 ≤ length B → (j : ℕ) → j ≡ i + 4 → (l : Lexed) → l ≡ lex_at y B i → (k : Nodes) → k ≡ n → is_some l.event ≡ false → ScanLeft B S j l.lexer k x m
+  scan_skip h j q l e k f t = scan_step h j q l e k (f ∙ sym (no_token B S (i + 4) n l.event t))
 
   scan_lexer : length B ≤ i → y ≡ x
   scan_lexer h = sym (ap (λ r. r.lexer) (ap (λ l. read y i l) (drop-end B i h) ∙ read_none _ _)) ∙ inv.lexer
@@ -112,7 +101,7 @@ module _ {B S : List ℕ} {i : ℕ} {y : Lexer} {n : Nodes} {x : Lexer} {m : Nod
   scan_cut h k = sym (ap (λ r. r.lexer) (read_cut y i (drop i B) (rw length-drop (omega arith)) (rw length-drop (omega arith)))) ∙ inv.lexer
 
   -- what the whole block comes to
-  pub scan_refused : i < length B → length B < i + 4 → Invalid ≡ judged x m
+  pub scan_refused : i < length B → length B < i + 4 → Err Invalid ≡ judged x m
   unfolding judged is_done
   scan_refused h k = ap (λ t. judged t m) (scan_cut h k)
 
@@ -121,7 +110,6 @@ module _ {B S : List ℕ} {i : ℕ} {y : Lexer} {n : Nodes} {x : Lexer} {m : Nod
 
 -- The second pass: at place `i` the pairs left are `v`
 pub record PairsLeft (B S : List ℕ) (i : ℕ) (y : Lexer) (n : Nodes) (v : List Pair) : Type 0 where
-  pub within : i ≤ length B
   pub left : pairs_from B S i y n (drop i B) ≡ v
 
 pub pairs_none : (B S : List ℕ) (i : ℕ) (y : Lexer) (n : Nodes) → length B < i + 4 → pairs_from B S i y n (drop i B) ≡ []
@@ -150,13 +138,13 @@ module _ {B S : List ℕ} {i : ℕ} {y : Lexer} {n : Nodes} {v : List Pair} (inv
       → v ≡ reg_pairs B m ++ later l m
   pairs_hit l e m f k = sym (rw k at (pairs_four l e m f))
 
-  pub pairs_miss : (l : Lexed) → l ≡ lex_at y B i → (m : Nodes) → m ≡ advance B S (i + 4) n l.event → at_pair l.event m ≡ false
-      → PairsLeft B S (i + 4) l.lexer m v
-  pairs_miss l e m f k = record { within = h; left = rw k at (pairs_four l e m f) }
+  pub pairs_miss : (j : ℕ) → j ≡ i + 4 → (l : Lexed) → l ≡ lex_at y B i → (m : Nodes) → m ≡ advance B S (i + 4) n l.event → at_pair l.event m ≡ false
+      → PairsLeft B S j l.lexer m v
+  pairs_miss j q l e m f k = rw q (record { left = rw k at (pairs_four l e m f) })
 
   -- four bytes that complete no token
-  pub pairs_skip : (l : Lexed) → l ≡ lex_at y B i → is_token l.event ≡ false → PairsLeft B S (i + 4) l.lexer n v
-  pairs_skip l e k = pairs_miss l e n (sym (no_token B S (i + 4) n l.event k)) (no_hit l.event n k)
+  pub pairs_skip : (j : ℕ) → j ≡ i + 4 → (l : Lexed) → l ≡ lex_at y B i → (m : Nodes) → m ≡ n → is_some l.event ≡ false → PairsLeft B S j l.lexer m v
+  pairs_skip j q l e m f k = rw f (pairs_miss j q l e n (sym (no_token B S (i + 4) n l.event k)) (no_hit l.event n k))
 
 -- the bytes of a pair, and the pairs of the block's rest, by the state of a walk
 abbrev bytes_in : Scan → ℕ
@@ -173,24 +161,24 @@ walk_none : (B S : List ℕ) (w : Walk) → w.left < bytes_in w.scan → left_in
 unfolding left_in pairs_at
 walk_none B S w h = rw ((whole w.scan.nodes.address.value w.scan.nodes.size.value w.left).none h)
 
--- what a step hands out of a walk: the next pair and the walk after it, or nothing
-abbrev HandsOut : List ℕ → List ℕ → Walk → Handed → Type 0
-HandsOut B S w t = left_in B S w ≡ cond t.found (pair_of t.base t.size ∷ left_in B S t.walk) []
+-- what a step hands out of a walk: the next pair and the walk after it
+abbrev HandsOut : List ℕ → List ℕ → Walk → Next Walk → Type 0
+HandsOut B S w t = left_in B S w ≡ pair_of t.base t.size ∷ left_in B S t.after
 
 -- what is handed out at a place
 handed-here : (B S : List ℕ) (w : Walk) (place k : ℕ)
     → pairs_in B w.scan (suc (k / bytes_in w.scan)) place ++ rest_of B S w
-    ≡ cond (handed B w place k).found (pair_of (handed B w place k).base (handed B w place k).size ∷ left_in B S (handed B w place k).walk) []
+    ≡ pair_of (handed B w place k).base (handed B w place k).size ∷ left_in B S (handed B w place k).after
 unfolding pairs_at handed left_in
 handed-here B S w place k = refl
 
-handed_out : (B S : List ℕ) (w : Walk) (place k : ℕ) (t : Handed) → t ≡ handed B w place k
+handed_out : (B S : List ℕ) (w : Walk) (place k : ℕ) (t : Next Walk) → t ≡ handed B w place k
     → pairs_in B w.scan (suc (k / bytes_in w.scan)) place ++ rest_of B S w
-    ≡ cond t.found (pair_of t.base t.size ∷ left_in B S t.walk) []
+    ≡ pair_of t.base t.size ∷ left_in B S t.after
 handed_out B S w place k t e =
-    handed-here B S w place k ∙ sym (ap (λ u. cond u.found (pair_of u.base u.size ∷ left_in B S u.walk) []) e)
+    handed-here B S w place k ∙ sym (ap (λ u. pair_of u.base u.size ∷ left_in B S u.after) e)
 
-pub out_of_reg : (B S : List ℕ) (w : Walk) (t : Handed) (b : ℕ) → b ≡ bytes_in w.scan → b ≤ w.left
+pub out_of_reg : (B S : List ℕ) (w : Walk) (t : Next Walk) (b : ℕ) → b ≡ bytes_in w.scan → b ≤ w.left
     → t ≡ handed B w w.place (w.left - b) → HandsOut B S w t
 unfolding left_in
 out_of_reg B S w t b eb h e =
@@ -202,32 +190,23 @@ out_of_reg B S w t b eb h e =
 abbrev Finds : List ℕ → List ℕ → Walk → Found → Type 0
 Finds B S w r =
     rest_of B S w
-    ≡ cond r.found (reg_pairs B r.scan.nodes ++ pairs_from B S r.at r.scan.lexer r.scan.nodes (drop r.at B)) []
+    ≡ reg_pairs B r.scan.nodes ++ pairs_from B S r.at r.scan.lexer r.scan.nodes (drop r.at B)
 
-pub out_of_none : (B S : List ℕ) (w : Walk) (r : Found) → w.left < bytes_in w.scan → Finds B S w r → r.found ≡ false → left_in B S w ≡ []
-out_of_none B S w r h f e = walk_none B S w h ∙ rw e at f
+pub out_of_none : (B S : List ℕ) (w : Walk) → w.left < bytes_in w.scan → rest_of B S w ≡ [] → left_in B S w ≡ []
+out_of_none B S w h f = walk_none B S w h ∙ f
 
-pub out_of_next : (B S : List ℕ) (w : Walk) (r : Found) (t : Handed) (k b : ℕ) → w.left < bytes_in w.scan → Finds B S w r → r.found ≡ true
+pub out_of_next : (B S : List ℕ) (w : Walk) (r : Found) (t : Next Walk) (k b : ℕ) → w.left < bytes_in w.scan → Finds B S w r
     → b ≡ bytes_in r.scan → k ≡ r.scan.nodes.reg.length - b
     → t ≡ handed B (record { at = r.at; scan = r.scan; place = 0; left = 0 }) r.scan.nodes.reg.value k → HandsOut B S w t
 unfolding reg_pairs
-out_of_next B S w r t k b h f e eb ek et =
+out_of_next B S w r t k b h f eb ek et =
     let v : Walk = record { at = r.at; scan = r.scan; place = 0; left = 0 } in
     let e' : k ≡ r.scan.nodes.reg.length - bytes_in r.scan = ek ∙ ap (λ x. r.scan.nodes.reg.length - x) eb in
-    walk_none B S w h ∙ (rw e at f
+    walk_none B S w h ∙ (f
     ∙ (ap (λ n. pairs_in B r.scan (suc (n / bytes_in r.scan)) r.scan.nodes.reg.value ++ rest_of B S v) (sym e')
     ∙ handed_out B S v r.scan.nodes.reg.value k t et))
 
--- a part that lies inside
-pub inside_is : (n from to : ℕ) → inside_of n from to ≡ true → (to ≤ 65536) × ((to ≤ n) × (from ≤ to))
-unfolding inside_of
-inside_is n from to h = go (ltb 65536 to) (ltb n to) (ltb to from) refl refl refl h where
-  go : (t u v : Bool) → ltb 65536 to ≡ t → ltb n to ≡ u → ltb to from ≡ v → cond t false (cond u false (cond v false true)) ≡ true → (to ≤ 65536) × ((to ≤ n) × (from ≤ to))
-  go false false false e f g k = (ltb-false 65536 to e, (ltb-false n to f, ltb-false to from g))
-  go true u v e f g k = impossible k
-  go false true v e f g k = impossible k
-  go false false true e f g k = impossible k
-
+-- what is left at a cursor
 module _ (s : List ℕ) (c : Cursor) where
   abbrev InsideBlock : Bool → Type 0
   InsideBlock t = inside_of (length s) c.blocks.block.from c.blocks.block.to ≡ t
@@ -243,15 +222,20 @@ module _ (s : List ℕ) (c : Cursor) where
   unfolding pairs_left
   left_outside_strings h k = rw (h, k)
 
-  pub left_inside : (t : Handed) → InsideBlock true → InsideStrings true
+  pub left_inside_none : InsideBlock true → InsideStrings true
+      → left_in (block_of s c.blocks) (strings_of s c.blocks) c.walk ≡ [] → pairs_left s c ≡ []
+  unfolding pairs_left
+  left_inside_none h k e = rw (h, k) e
+
+  pub left_inside : (t : Next Walk) → InsideBlock true → InsideStrings true
       → HandsOut (block_of s c.blocks) (strings_of s c.blocks) c.walk t
-      → pairs_left s c ≡ cond t.found (pair_of t.base t.size ∷ pairs_left s (record { blocks = c.blocks; walk = t.walk })) []
+      → pairs_left s c ≡ pair_of t.base t.size ∷ pairs_left s (record { blocks = c.blocks; walk = t.after })
   unfolding pairs_left
   left_inside t h k e = rw (h, k) e
 
 -- A loop looks for the end of the reservation list: of `n` entries from `i` on the answer is `v`
 pub record EntriesLeft (s : List ℕ) (i n : ℕ) (v : Bool) : Type 0 where
-  pub within : i + 16 * n ≤ length s
+  pub within : 0 < n → i + 16 * n ≤ length s
   pub left : list_ends s i n ≡ v
 
 entries_first : (s : List ℕ) (i n : ℕ) → 0 < n → list_ends s i n ≡ cond (zero_entry s i) true (list_ends s (i + 16) (n - 1))
@@ -268,12 +252,12 @@ module _ {s : List ℕ} {i n : ℕ} {v : Bool} (inv : EntriesLeft s i n v) where
   pub entry_here : 0 < n → zero_entry s i ≡ true → true ≡ v
   entry_here h e = rw (entries_first s i n h, e) at inv.left
 
-  pub entry-later : 0 < n → zero_entry s i ≡ false → EntriesLeft s (i + 16) (n - 1) v
-  entry-later h e = let w = inv.within in record { within = omega arith; left = rw (entries_first s i n h, e) at inv.left }
+  pub entry_later : 0 < n → zero_entry s i ≡ false → (j k : ℕ) → j ≡ i + 16 → k ≡ n - 1 → EntriesLeft s j k v
+  entry_later h e j k p q = rw (p, q) (let w = inv.within h in record { within = λ _. omega arith; left = rw (entries_first s i n h, e) at inv.left })
 
   pub entry_done : n ≤ 0 → false ≡ v
   entry_done h = rw (entries_none s i n h) at inv.left
 
 -- a pair handed out leaves fewer: the measure of a loop over `next_pair`
-pub left_less : (s : List ℕ) (c d : Cursor) (f : Bool) (p : Pair) → pairs_left s c ≡ cond f (p ∷ pairs_left s d) [] → f ≡ true → length (pairs_left s d) < length (pairs_left s c)
-left_less s c d f p e h = let k : length (pairs_left s c) ≡ suc (length (pairs_left s d)) = ap length (rw h at e) in omega arith
+pub left_less : (s : List ℕ) (c d : Cursor) (p : Pair) → pairs_left s c ≡ p ∷ pairs_left s d → length (pairs_left s d) < length (pairs_left s c)
+left_less s c d p e = let k : length (pairs_left s c) ≡ suc (length (pairs_left s d)) = ap length e in omega arith

@@ -1,17 +1,14 @@
 -- The blob: header, reservation list, blocks, and what the answer is. Assumes nothing.
-use Rattle.std.specs.Prelude.{ℕ, zero, suc, ◌+◌, ◌-◌, ◌/◌, ◌%◌, ◌≤◌, Bool, true, false, cond, List, [], length, take, drop, ◌==◌, nat_lt}
+use Rattle.std.specs.Prelude.{ℕ, zero, suc, ◌+◌, ◌-◌, ◌/◌, ◌%◌, Bool, true, false, cond, Result, Ok, Err, List, [], length, take, drop, ◌==◌, nat_lt}
 use Rattle.fdt_tokens.specs.Devicetree.{Pair, Said, invalid, unsupported, pairs}
 use Rattle.fdt_tokens.specs.Bytes.{be32_at}
-use Rattle.fdt_nodes.specs.declared.Verdict.{Verdict}
-use Rattle.fdt_nodes.specs.declared.Verdict.TheVariants as verdict
+use Rattle.fdt_nodes.specs.declared.DevicetreeError.{DevicetreeError}
+use Rattle.fdt_nodes.specs.declared.DevicetreeError.TheVariants.{Invalid, UnsupportedCellCounts}
 use Rattle.fdt_nodes.specs.Scan.{started}
 use Rattle.fdt.specs.Passes.{judged_block, left_in}
 use Rattle.fdt.specs.declared.Walk.{Walk}
-use Rattle.fdt.specs.declared.Part.{Part}
 use Rattle.fdt.specs.declared.Blocks.{Blocks}
 use Rattle.fdt.specs.declared.Cursor.{Cursor}
-use Rattle.fdt.specs.declared.Memory.{Memory}
-use Rattle.fdt.specs.declared.Memory.TheVariants.{Invalid, UnsupportedCellCounts, Pairs}
 
 -- the second pass at its start
 abbrev pub first_walk : Walk
@@ -58,40 +55,35 @@ abbrev pub strings_of : List ℕ → Blocks → List ℕ
 strings_of s b = part s b.strings.from b.strings.to
 
 -- the first pass decides whether there are pairs, and these blocks have them
-unfoldable pub memory_by : Verdict → Blocks → Memory
-memory_by verdict.Accepted b = Pairs (cursor_at b)
-memory_by verdict.Invalid b = Invalid
-memory_by verdict.UnsupportedCellCounts b = UnsupportedCellCounts
+unfoldable pub memory_by : Result (Unit {0}) DevicetreeError → Blocks → Result Cursor DevicetreeError
+memory_by (Ok u) b = Ok (cursor_at b)
+memory_by (Err e) b = Err e
 
 -- the answer of the blocks at some places
-unfoldable pub blocks_memory : List ℕ → Blocks → Memory
+unfoldable pub blocks_memory : List ℕ → Blocks → Result Cursor DevicetreeError
 blocks_memory s b = memory_by (judged_block (block_of s b) (strings_of s b)) b
 
 -- the header, then blocks inside totalsize, then what they say
-unfoldable pub blob_memory : List ℕ → ℕ → Memory
+unfoldable pub blob_memory : List ℕ → ℕ → Result Cursor DevicetreeError
 blob_memory s total =
     cond (header_ok s total)
-    (cond (nat_lt total (be32_at s 8 + be32_at s 36)) Invalid
-    (cond (nat_lt total (be32_at s 12 + be32_at s 32)) Invalid
+    (cond (nat_lt total (be32_at s 8 + be32_at s 36)) (Err Invalid)
+    (cond (nat_lt total (be32_at s 12 + be32_at s 32)) (Err Invalid)
     (blocks_memory s (blocks_at (be32_at s 8) (be32_at s 8 + be32_at s 36) (be32_at s 12) (be32_at s 12 + be32_at s 32)))))
-    Invalid
+    (Err Invalid)
 
 -- the lengths, then the blob
-unfoldable pub memory_of : List ℕ → Memory
+unfoldable pub memory_of : List ℕ → Result Cursor DevicetreeError
 memory_of s =
-    cond (nat_lt (length s) 40) Invalid
-    (cond (nat_lt (be32_at s 4) 40) Invalid
-    (cond (nat_lt 65536 (be32_at s 4)) Invalid
-    (cond (nat_lt (length s) (be32_at s 4)) Invalid
+    cond (nat_lt (length s) 40) (Err Invalid)
+    (cond (nat_lt (be32_at s 4) 40) (Err Invalid)
+    (cond (nat_lt 65536 (be32_at s 4)) (Err Invalid)
+    (cond (nat_lt (length s) (be32_at s 4)) (Err Invalid)
     (blob_memory s (be32_at s 4)))))
 
 -- a part that lies in `n` bytes, and ends at 64 KiB at most
 unfoldable pub inside_of : ℕ → ℕ → ℕ → Bool
 inside_of n from to = cond (nat_lt 65536 to) false (cond (nat_lt n to) false (cond (nat_lt to from) false true))
-
--- the same of a slice, in sentences
-abbrev pub Inside : List ℕ → Part → Type 0
-Inside s p = (p.to ≤ 65536) × ((p.to ≤ length s) × (p.from ≤ p.to))
 
 -- the pairs left at a cursor; a cursor that is not of this slice may have none
 unfoldable pub pairs_left : List ℕ → Cursor → List Pair
@@ -102,10 +94,10 @@ pairs_left s c =
     []) []
 
 -- a slice's memory as an answer, with all the pairs that are left at its cursor
-unfoldable pub memory_answer : List ℕ → Memory → Said
-memory_answer s Invalid = invalid
-memory_answer s UnsupportedCellCounts = unsupported
-memory_answer s (Pairs cursor) = pairs (pairs_left s cursor)
+unfoldable pub memory_answer : List ℕ → Result Cursor DevicetreeError → Said
+memory_answer s (Err Invalid) = invalid
+memory_answer s (Err UnsupportedCellCounts) = unsupported
+memory_answer s (Ok cursor) = pairs (pairs_left s cursor)
 
 -- what the reader answers
 unfoldable pub blob_answer : List ℕ → Said

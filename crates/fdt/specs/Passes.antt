@@ -1,5 +1,5 @@
 -- The two passes over the structure block. Assumes nothing.
-use Rattle.std.specs.Prelude.{ℕ, zero, suc, ◌+◌, ◌-◌, ◌*◌, ◌/◌, ◌%◌, ◌^◌, true, cond, List, [], ◌∷◌, ◌++◌, drop, ◌==◌, slice_index}
+use Rattle.std.specs.Prelude.{ℕ, zero, suc, ◌+◌, ◌-◌, ◌*◌, ◌/◌, ◌%◌, ◌^◌, cond, Some, Result, List, [], ◌∷◌, ◌++◌, drop, ◌==◌, slice_index}
 use Rattle.fdt_tokens.specs.Devicetree.{Pair}
 use Rattle.fdt_tokens.specs.Bytes.{be32_at}
 use Rattle.fdt_tokens.specs.Lex.{lex_word, Placed, read}
@@ -9,9 +9,9 @@ use Rattle.fdt_tokens.specs.declared.Lexer.TheVariants.{Token}
 use Rattle.fdt_nodes.specs.Nodes.{width, pair_bytes, advance}
 use Rattle.fdt_nodes.specs.Scan.{started, judged, at_pair}
 use Rattle.fdt_nodes.specs.declared.Nodes.{Nodes}
-use Rattle.fdt_nodes.specs.declared.Verdict.{Verdict}
+use Rattle.fdt_nodes.specs.declared.DevicetreeError.{DevicetreeError}
 use Rattle.fdt.specs.declared.Walk.{Walk}
-use Rattle.fdt.specs.declared.Handed.{Handed}
+use Rattle.fdt.specs.declared.Next.{Next}
 
 -- the four bytes at a place
 abbrev pub lex_at : Lexer → List ℕ → ℕ → Lexed
@@ -20,10 +20,10 @@ lex_at x block at = lex_word x (slice_index block at) (slice_index block (at + 1
 -- the nodes after some tokens
 unfoldable pub folded : List ℕ → List ℕ → Nodes → List Placed → Nodes
 folded block strings n [] = n
-folded block strings n (e ∷ es) = folded block strings (advance block strings e.place n e.event) es
+folded block strings n (e ∷ es) = folded block strings (advance block strings e.place n (Some e.event)) es
 
 -- what a structure block comes to
-unfoldable pub judged_block : List ℕ → List ℕ → Verdict
+unfoldable pub judged_block : List ℕ → List ℕ → Result (Unit {0}) DevicetreeError
 judged_block block strings =
     judged (read Token 0 block).lexer (folded block strings started.nodes (read Token 0 block).tokens)
 
@@ -54,9 +54,9 @@ reg_pairs s n =
 unfoldable pub pairs_met : List ℕ → List ℕ → Nodes → List Placed → List Pair
 pairs_met block strings n [] = []
 pairs_met block strings n (e ∷ es) =
-    cond (at_pair e.event (advance block strings e.place n e.event))
-    (reg_pairs block (advance block strings e.place n e.event) ++ pairs_met block strings (advance block strings e.place n e.event) es)
-    (pairs_met block strings (advance block strings e.place n e.event) es)
+    cond (at_pair (Some e.event) (advance block strings e.place n (Some e.event)))
+    (reg_pairs block (advance block strings e.place n (Some e.event)) ++ pairs_met block strings (advance block strings e.place n (Some e.event)) es)
+    (pairs_met block strings (advance block strings e.place n (Some e.event)) es)
 
 -- the pairs of the bytes left
 unfoldable pub pairs_from : List ℕ → List ℕ → ℕ → Lexer → Nodes → List ℕ → List Pair
@@ -71,13 +71,12 @@ left_in block strings w =
     ++ pairs_from block strings w.at w.scan.lexer w.scan.nodes (drop w.at block)
 
 -- the pair at a place, after which so many bytes are left
-unfoldable pub handed : List ℕ → Walk → ℕ → ℕ → Handed
+unfoldable pub handed : List ℕ → Walk → ℕ → ℕ → Next Walk
 handed block w place left =
     let a = w.scan.nodes.address.value in
     let z = w.scan.nodes.size.value in
     record {
-      found = true;
       base = cells_at block place a;
       size = cells_at block (place + width a) z;
-      walk = record { at = w.at; scan = w.scan; place = (place + pair_bytes a z) % 2 ^ 32; left = left };
+      after = record { at = w.at; scan = w.scan; place = (place + pair_bytes a z) % 2 ^ 32; left = left };
     }

@@ -1,10 +1,10 @@
 -- The nodes up to a place in the structure block, as the reader keeps them. Assumes nothing.
-use Rattle.std.specs.Prelude.{ℕ, ◌+◌, ◌-◌, ◌%◌, ◌^◌, Bool, true, false, cond, not, List, [], ◌∷◌, ◌++◌, drop, ◌==◌}
+use Rattle.std.specs.Prelude.{ℕ, ◌+◌, ◌-◌, ◌%◌, ◌^◌, Bool, true, false, cond, not, Option, None, Some, List, [], ◌∷◌, ◌++◌, drop, ◌==◌}
 use Rattle.fdt_tokens.specs.Devicetree as dt
 use Rattle.fdt_tokens.specs.Devicetree.{has_zero, one_or_two, memory_type}
 use Rattle.fdt_tokens.specs.Bytes.{be32_at, starts_with}
 use Rattle.fdt_tokens.specs.declared.Event.{Event}
-use Rattle.fdt_tokens.specs.declared.Event.TheVariants.{Nothing, Begin, EndNode, Prop, End}
+use Rattle.fdt_tokens.specs.declared.Event.TheVariants.{Begin, EndNode, Prop, End}
 use Rattle.fdt_nodes.specs.declared.First.{First}
 use Rattle.fdt_nodes.specs.declared.Nodes.{Nodes}
 
@@ -121,10 +121,10 @@ property s strings at n w name =
 unfoldable pub ended : Nodes → Nodes
 ended n = cond (n.depth == 0) (cond n.rooted n (bad_nodes n)) (bad_nodes n)
 
--- the nodes after one more token
-unfoldable pub advance : List ℕ → List ℕ → ℕ → Nodes → Event → Nodes
-advance s strings at n Nothing = n
-advance s strings at n Begin = begin_node n
-advance s strings at n EndNode = end_node n
-advance s strings at n (Prop w name) = property s strings at n w name
-advance s strings at n End = ended n
+-- the nodes after one more token, or none
+unfoldable pub advance : List ℕ → List ℕ → ℕ → Nodes → Option Event → Nodes
+advance s strings at n None = n
+advance s strings at n (Some Begin) = begin_node n
+advance s strings at n (Some EndNode) = end_node n
+advance s strings at n (Some (Prop w name)) = property s strings at n w name
+advance s strings at n (Some End) = ended n

@@ -1,10 +1,10 @@
 -- The structure block's words, one by one. Assumes nothing.
-use Rattle.std.specs.Prelude.{ℕ, ◌+◌, ◌-◌, Bool, true, false, cond, List, [], ◌∷◌, ltb, eqb}
+use Rattle.std.specs.Prelude.{ℕ, ◌+◌, ◌-◌, Bool, true, false, cond, Option, None, Some, List, [], ◌∷◌, ltb, eqb}
 use Rattle.fdt_tokens.specs.Devicetree.{joined}
 use Rattle.fdt_tokens.specs.declared.Lexer.{Lexer}
 use Rattle.fdt_tokens.specs.declared.Lexer.TheVariants.{Token, Name, Length, Offset, Value, Done, Broken}
 use Rattle.fdt_tokens.specs.declared.Event.{Event}
-use Rattle.fdt_tokens.specs.declared.Event.TheVariants.{Nothing, Begin, EndNode, Prop, End}
+use Rattle.fdt_tokens.specs.declared.Event.TheVariants.{Begin, EndNode, Prop, End}
 use Rattle.fdt_tokens.specs.declared.Lexed.{Lexed}
 
 -- in a name only zero bytes follow a zero byte, and the first of them ends the name
@@ -32,22 +32,22 @@ value_word left b c d =
 -- FDT_BEGIN_NODE 1, FDT_END_NODE 2, FDT_PROP 3, FDT_NOP 4, FDT_END 9
 unfoldable pub token_word : ℕ → Lexed
 token_word w =
-    cond (eqb w 1) (record { lexer = Name; event = Begin })
-    (cond (eqb w 2) (record { lexer = Token; event = EndNode })
-    (cond (eqb w 3) (record { lexer = Length; event = Nothing })
-    (cond (eqb w 4) (record { lexer = Token; event = Nothing })
-    (cond (eqb w 9) (record { lexer = Done; event = End })
-    (record { lexer = Broken; event = Nothing })))))
+    cond (eqb w 1) (record { lexer = Name; event = Some Begin })
+    (cond (eqb w 2) (record { lexer = Token; event = Some EndNode })
+    (cond (eqb w 3) (record { lexer = Length; event = None })
+    (cond (eqb w 4) (record { lexer = Token; event = None })
+    (cond (eqb w 9) (record { lexer = Done; event = Some End })
+    (record { lexer = Broken; event = None })))))
 
 -- what four bytes are, by what they are part of
 unfoldable pub lex_word : Lexer → ℕ → ℕ → ℕ → ℕ → Lexed
 lex_word Token a b c d = token_word (joined a b c d)
-lex_word Name a b c d = record { lexer = name_word a b c d; event = Nothing }
-lex_word Length a b c d = record { lexer = Offset (joined a b c d); event = Nothing }
-lex_word (Offset n) a b c d = record { lexer = cond (eqb n 0) Token (Value n); event = Prop n (joined a b c d) }
-lex_word (Value n) a b c d = record { lexer = value_word n b c d; event = Nothing }
-lex_word Done a b c d = record { lexer = Broken; event = Nothing }
-lex_word Broken a b c d = record { lexer = Broken; event = Nothing }
+lex_word Name a b c d = record { lexer = name_word a b c d; event = None }
+lex_word Length a b c d = record { lexer = Offset (joined a b c d); event = None }
+lex_word (Offset n) a b c d = record { lexer = cond (eqb n 0) Token (Value n); event = Some (Prop n (joined a b c d)) }
+lex_word (Value n) a b c d = record { lexer = value_word n b c d; event = None }
+lex_word Done a b c d = record { lexer = Broken; event = None }
+lex_word Broken a b c d = record { lexer = Broken; event = None }
 
 -- FDT_END was read, and nothing after it
 unfoldable pub is_done : Lexer → Bool
@@ -58,14 +58,6 @@ is_done (Offset n) = false
 is_done (Value n) = false
 is_done Done = true
 is_done Broken = false
-
--- a word completes a token
-unfoldable pub is_token : Event → Bool
-is_token Nothing = false
-is_token Begin = true
-is_token EndNode = true
-is_token (Prop n o) = true
-is_token End = true
 
 -- a token met, and the place after the word that completes it: a property's is that of its value
 pub record Placed : Type 0 where
@@ -78,12 +70,9 @@ pub record Reading : Type 0 where
   pub lexer : Lexer
 
 -- a word that completes no token adds none
-unfoldable pub put : Event → ℕ → Reading → Reading
-put Nothing i r = r
-put Begin i r = record { tokens = record { event = Begin; place = i } ∷ r.tokens; lexer = r.lexer }
-put EndNode i r = record { tokens = record { event = EndNode; place = i } ∷ r.tokens; lexer = r.lexer }
-put (Prop n o) i r = record { tokens = record { event = Prop n o; place = i } ∷ r.tokens; lexer = r.lexer }
-put End i r = record { tokens = record { event = End; place = i } ∷ r.tokens; lexer = r.lexer }
+unfoldable pub put : Option Event → ℕ → Reading → Reading
+put None i r = r
+put (Some e) i r = record { tokens = record { event = e; place = i } ∷ r.tokens; lexer = r.lexer }
 
 -- the bytes left, of which the first stands at `i`; a last one to three bytes are no token
 unfoldable pub read : Lexer → ℕ → List ℕ → Reading

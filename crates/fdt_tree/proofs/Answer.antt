@@ -15,8 +15,9 @@ use Rattle.fdt_tokens.proofs.Lexing.{events, read_whole}
 use Rattle.fdt_nodes.specs.Nodes.{advance, at_depth, pair_bytes, ragged_reg, begin_node, end_node, child_end, ended}
 use Rattle.fdt_nodes.specs.Scan.{started, judged, at_pair, has_pair}
 use Rattle.fdt.specs.Passes.{folded, judged_block, pairs_met, pairs_from}
-use Rattle.fdt_nodes.specs.declared.Verdict.{Verdict}
-use Rattle.fdt_nodes.specs.declared.Verdict.TheVariants.{Accepted, Invalid, UnsupportedCellCounts}
+use Rattle.fdt_nodes.specs.declared.DevicetreeError.{DevicetreeError}
+use Rattle.fdt_nodes.specs.declared.DevicetreeError.TheVariants.{Invalid, UnsupportedCellCounts}
+use Rattle.std.specs.Prelude.{Result, Ok, Err}
 use Rattle.fdt_nodes.specs.declared.Nodes.{Nodes}
 use Rattle.fdt_tree.proofs.Steps.{Meets, Steps, to, begin_step, end_step, found, events_meet}
 use Rattle.fdt_tree.proofs.Deep.{nodes}
@@ -24,11 +25,15 @@ use Rattle.fdt_tree.proofs.Firsts.{Cell, cell_of, cells_of}
 use Rattle.fdt_tree.proofs.Children.{RootHas, root_props}
 use Rattle.fdt_tree.proofs.Memory.{ragged_regs, bytes_are, Kids, pairs_by, kids}
 
+-- what the first pass comes to
+abbrev pub Verdict : Type 0
+Verdict = Result (Unit {0}) DevicetreeError
+
 -- a verdict, and the pairs where it is accepted, as an answer
 abbrev pub answered : Verdict → List Pair → Said
-answered Accepted ps = dt.pairs ps
-answered Invalid ps = dt.invalid
-answered UnsupportedCellCounts ps = dt.unsupported
+answered (Ok u) ps = dt.pairs ps
+answered (Err Invalid) ps = dt.invalid
+answered (Err UnsupportedCellCounts) ps = dt.unsupported
 
 -- a block has room for its nodes
 tokens_short : {S l : List ℕ} {ts : List dt.Token} → Tokens S l ts → length ts ≤ length l
@@ -156,7 +161,7 @@ module _ (B S : List ℕ) (short : length B ≤ 65536) where
 
   -- the reader's verdict
   abbrev verdict : Bool → Bool → Bool → ℕ → ℕ → Verdict
-  verdict ok p q a z = cond ok (cond p (cond q (cond (one_or_two a) (cond (one_or_two z) Accepted UnsupportedCellCounts) UnsupportedCellCounts) Invalid) Invalid) Invalid
+  verdict ok p q a z = cond ok (cond p (cond q (cond (one_or_two a) (cond (one_or_two z) (Ok tt) (Err UnsupportedCellCounts)) (Err UnsupportedCellCounts)) (Err Invalid)) (Err Invalid)) (Err Invalid)
 
   -- by the lengths of the values, and their numbers
   answer : (p q : Bool) (x y : ℕ) (regs : List (List ℕ))
@@ -165,20 +170,20 @@ module _ (B S : List ℕ) (short : length B ≤ 65536) where
       ≡ cond (p && q) (cond (one_or_two x && one_or_two y) (cond (ragged x y regs) dt.invalid (dt.pairs (all_pairs x y regs))) dt.unsupported) dt.invalid
   answer true true x y regs = counts (one_or_two x) (one_or_two y) refl refl where
     counts : (t u : Bool) → one_or_two x ≡ t → one_or_two y ≡ u
-        → answered (cond (cond (ragged_regs x y regs) false true) (cond t (cond u Accepted UnsupportedCellCounts) UnsupportedCellCounts) Invalid) (all_pairs (cells_of B x) (cells_of B y) regs)
+        → answered (cond (cond (ragged_regs x y regs) false true) (cond t (cond u (Ok tt) (Err UnsupportedCellCounts)) (Err UnsupportedCellCounts)) (Err Invalid)) (all_pairs (cells_of B x) (cells_of B y) regs)
         ≡ cond (t && u) (cond (ragged x y regs) dt.invalid (dt.pairs (all_pairs x y regs))) dt.unsupported
     counts true true e f = rw (ragged-same x y regs e f, cells_same x e, cells_same y f) (go (ragged x y regs)) where
-      go : (r : Bool) → answered (cond (cond r false true) Accepted Invalid) (all_pairs x y regs) ≡ cond r dt.invalid (dt.pairs (all_pairs x y regs))
+      go : (r : Bool) → answered (cond (cond r false true) (Ok tt) (Err Invalid)) (all_pairs x y regs) ≡ cond r dt.invalid (dt.pairs (all_pairs x y regs))
       go true = refl
       go false = refl
     counts true false e f = rw (ragged-second x y regs e f)
     counts false u e f = rw (ragged-first x y regs e)
   answer true false x y regs = go (cond (ragged_regs x 0 regs) false true) (all_pairs (cells_of B x) (cells_of B 0) regs) where
-    go : (t : Bool) (ps : List Pair) → answered (cond t Invalid Invalid) ps ≡ dt.invalid
+    go : (t : Bool) (ps : List Pair) → answered (cond t (Err Invalid) (Err Invalid)) ps ≡ dt.invalid
     go true ps = refl
     go false ps = refl
   answer false q x y regs = go (cond (ragged_regs 0 (cond q y 0) regs) false true) (all_pairs (cells_of B 0) (cells_of B (cond q y 0)) regs) where
-    go : (t : Bool) (ps : List Pair) → answered (cond t Invalid Invalid) ps ≡ dt.invalid
+    go : (t : Bool) (ps : List Pair) → answered (cond t (Err Invalid) (Err Invalid)) ps ≡ dt.invalid
     go true ps = refl
     go false ps = refl
 

@@ -11,7 +11,7 @@ use Rattle.fdt_tokens.specs.Devicetree as dt
 use Rattle.fdt_tokens.specs.Devicetree.{Tree, Tokens, padded, tokens_of, joined, has_zero}
 use Rattle.fdt_tokens.specs.Lex.{Placed, is_done, read}
 use Rattle.fdt_tokens.specs.declared.Event.{Event}
-use Rattle.fdt_tokens.specs.declared.Event.TheVariants.{Nothing, Begin, EndNode, Prop, End}
+use Rattle.fdt_tokens.specs.declared.Event.TheVariants.{Begin, EndNode, Prop, End}
 use Rattle.fdt_tokens.specs.declared.Lexer.{Lexer}
 use Rattle.fdt_tokens.specs.declared.Lexer.TheVariants.{Token, Name, Length, Offset, Value, Done, Broken}
 use Rattle.fdt_tokens.proofs.Laws.{impossible}
@@ -22,7 +22,8 @@ use Rattle.fdt_nodes.specs.Nodes.{absent, at_depth, with_child, bad_nodes, is_me
 use Rattle.fdt_nodes.specs.Scan.{started, judged}
 use Rattle.fdt.specs.Passes.{folded, judged_block}
 use Rattle.fdt_nodes.specs.declared.Nodes.{Nodes}
-use Rattle.fdt_nodes.specs.declared.Verdict.TheVariants.{Invalid}
+use Rattle.fdt_nodes.specs.declared.DevicetreeError.TheVariants.{Invalid}
+use Rattle.std.specs.Prelude.{Option, None, Some, Err}
 
 -- the place in the tree is kept, and what is ok was ok
 pub record Kept (n m : Nodes) : Type 0 where
@@ -141,23 +142,22 @@ fits_prop (suc d) false q ts h e = impossible e
 
 module _ (B S : List ℕ) where
   -- what is ok was ok
-  advance_ok : (i : ℕ) (n : Nodes) (e : Event) → (advance B S i n e).ok ≡ true → n.ok ≡ true
+  advance_ok : (i : ℕ) (n : Nodes) (e : Option Event) → (advance B S i n e).ok ≡ true → n.ok ≡ true
   unfolding advance
-  advance_ok i n Nothing h = h
-  advance_ok i n Begin h = begin_ok n h
-  advance_ok i n EndNode h = (end_kept n (end_inside n h)).ok h
-  advance_ok i n (Prop w o) h = (property_allowed B S i n w o).same.ok h
-  advance_ok i n End h = (ended_ok n h).ok
+  advance_ok i n None h = h
+  advance_ok i n (Some Begin) h = begin_ok n h
+  advance_ok i n (Some EndNode) h = (end_kept n (end_inside n h)).ok h
+  advance_ok i n (Some (Prop w o)) h = (property_allowed B S i n w o).same.ok h
+  advance_ok i n (Some End) h = (ended_ok n h).ok
 
   folded_ok : (es : List Placed) (n : Nodes) → (folded B S n es).ok ≡ true → n.ok ≡ true
   unfolding folded
   folded_ok [] n h = h
-  folded_ok (e ∷ es) n h = advance_ok e.place n e.event (folded_ok es (advance B S e.place n e.event) h)
+  folded_ok (e ∷ es) n h = advance_ok e.place n (Some e.event) (folded_ok es (advance B S e.place n (Some e.event)) h)
 
   -- where all is ok every name ends
-  closes : (i : ℕ) (n : Nodes) (e : Event) → (advance B S i n e).ok ≡ true → Closes S e
+  closes : (i : ℕ) (n : Nodes) (e : Event) → (advance B S i n (Some e)).ok ≡ true → Closes S e
   unfolding advance
-  closes i n Nothing h = tt
   closes i n Begin h = tt
   closes i n EndNode h = tt
   closes i n (Prop w o) h = (property_allowed B S i n w o).ends h
@@ -166,7 +166,7 @@ module _ (B S : List ℕ) where
   closed : (es : List Placed) (n : Nodes) → (folded B S n es).ok ≡ true → Closed S es
   unfolding folded
   closed [] n h = tt
-  closed (e ∷ es) n h = (closes e.place n e.event (folded_ok es (advance B S e.place n e.event) h), closed es (advance B S e.place n e.event) h)
+  closed (e ∷ es) n h = (closes e.place n e.event (folded_ok es (advance B S e.place n (Some e.event)) h), closed es (advance B S e.place n (Some e.event)) h)
 
   shape : {l : List ℕ} {ts : List dt.Token} (t : Tokens S l ts) (i : ℕ) (n : Nodes) (d : ℕ) (p : Bool)
       → n.depth ≡ d → n.props ≡ p → n.rooted ≡ true → (p ≡ true → 0 < d) → d + length l < 2 ^ 64
@@ -229,7 +229,7 @@ record Accepted (x : Lexer) (n : Nodes) : Type 0 where
   done : x ≡ Done
   ok : n.ok ≡ true
 
-not-refused : (x : Lexer) (n : Nodes) → (judged x n ≡ Invalid → ⊥) → Accepted x n
+not-refused : (x : Lexer) (n : Nodes) → (judged x n ≡ Err Invalid → ⊥) → Accepted x n
 unfolding judged is_done
 not-refused Token n h = absurd (h refl)
 not-refused Name n h = absurd (h refl)
@@ -243,7 +243,7 @@ not-refused Done n h = record { done = refl; ok = go n.ok refl } where
   go false e = absurd (h (rw e))
 
 -- unless a block is invalid it is that of a tree
-pub block_formed : (B S : List ℕ) → length B ≤ 65536 → (judged_block B S ≡ Invalid → ⊥) → Formed S B
+pub block_formed : (B S : List ℕ) → length B ≤ 65536 → (judged_block B S ≡ Err Invalid → ⊥) → Formed S B
 unfolding judged_block
 block_formed B S b h =
     let a = not-refused (read Token 0 B).lexer (folded B S started.nodes (read Token 0 B).tokens) h in

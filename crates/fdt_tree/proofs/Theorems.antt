@@ -15,15 +15,15 @@ use Rattle.fdt_tokens.proofs.Laws.{impossible}
 use Rattle.fdt_nodes.specs.Scan.{started}
 use Rattle.fdt.specs.Passes.{judged_block, pairs_from, pairs_at, left_in}
 use Rattle.fdt.specs.Blob.{part, block_of, strings_of, blocks_at, cursor_at, list_ends, header_ok, memory_by, blocks_memory, blob_memory, memory_of, inside_of, pairs_left, memory_answer, blob_answer}
-use Rattle.fdt.specs.declared.Memory.{Memory}
-use Rattle.fdt.specs.declared.Memory.TheVariants.{Invalid}
-use Rattle.fdt_nodes.specs.declared.Verdict.{Verdict}
-use Rattle.fdt_nodes.specs.declared.Verdict.TheVariants as verdict
+use Rattle.fdt.specs.declared.Cursor.{Cursor}
+use Rattle.fdt_nodes.specs.declared.DevicetreeError.{DevicetreeError}
+use Rattle.fdt_nodes.specs.declared.DevicetreeError.TheVariants.{Invalid, UnsupportedCellCounts}
+use Rattle.std.specs.Prelude.{Result, Ok, Err}
 use Rattle.fdt_nodes.proofs.Laws.{whole}
 use Rattle.fdt_tokens.specs.declared.Lexer.TheVariants.{Token}
 use Rattle.fdt.specs.declared.Blocks.{Blocks}
 use Rattle.fdt_tree.specs.Blobs.{Blob, Says}
-use Rattle.fdt_tree.proofs.Answer.{answered, block_answered}
+use Rattle.fdt_tree.proofs.Answer.{Verdict, answered, block_answered}
 use Rattle.fdt_tree.proofs.Shape.{Formed, block_formed}
 use Rattle.fdt_tree.proofs.Header.{span_is, word-field, field_is, ends_listed, listed_ends}
 
@@ -65,11 +65,11 @@ tested_memory s x =
     )
 
 -- a slice that is not invalid passed each test
-past : (t : Bool) (m : Memory) → (cond t Invalid m ≡ Invalid → ⊥) → (t ≡ false) × (m ≡ Invalid → ⊥)
+past : (t : Bool) (m : Result Cursor DevicetreeError) → (cond t (Err Invalid) m ≡ Err Invalid → ⊥) → (t ≡ false) × (m ≡ Err Invalid → ⊥)
 past true m h = absurd (h refl)
 past false m h = (refl, h)
 
-past_header : (t : Bool) (m : Memory) → (cond t m Invalid ≡ Invalid → ⊥) → (t ≡ true) × (m ≡ Invalid → ⊥)
+past_header : (t : Bool) (m : Result Cursor DevicetreeError) → (cond t m (Err Invalid) ≡ Err Invalid → ⊥) → (t ≡ true) × (m ≡ Err Invalid → ⊥)
 past_header true m h = (refl, h)
 past_header false m h = absurd (h refl)
 
@@ -88,20 +88,20 @@ header_tested s n h = go (eqb (be32_at s 0) 0xD00DFEED) (ltb (be32_at s 20) 17) 
   go true false false true false a b c d e h = impossible h
 
 -- unless the slice is invalid the tests passed
-valid_tested : (s : List ℕ) → (memory_of s ≡ Invalid → ⊥) → Tested s
+valid_tested : (s : List ℕ) → (memory_of s ≡ Err Invalid → ⊥) → Tested s
 unfolding memory_of blob_memory
 valid_tested s h =
     let m₄ = blob_memory s (be32_at s 4) in
-    let m₃ = cond (ltb (length s) (be32_at s 4)) Invalid m₄ in
-    let m₂ = cond (ltb 65536 (be32_at s 4)) Invalid m₃ in
-    let m₁ = cond (ltb (be32_at s 4) 40) Invalid m₂ in
+    let m₃ = cond (ltb (length s) (be32_at s 4)) (Err Invalid) m₄ in
+    let m₂ = cond (ltb 65536 (be32_at s 4)) (Err Invalid) m₃ in
+    let m₁ = cond (ltb (be32_at s 4) 40) (Err Invalid) m₂ in
     let a = past (ltb (length s) 40) m₁ h in
     let b = past (ltb (be32_at s 4) 40) m₂ a.1 in
     let c = past (ltb 65536 (be32_at s 4)) m₃ b.1 in
     let d = past (ltb (length s) (be32_at s 4)) m₄ c.1 in
     let k₂ = blocks_memory s (blocks_of s) in
-    let k₁ = cond (ltb (be32_at s 4) (be32_at s 12 + be32_at s 32)) Invalid k₂ in
-    let k = cond (ltb (be32_at s 4) (be32_at s 8 + be32_at s 36)) Invalid k₁ in
+    let k₁ = cond (ltb (be32_at s 4) (be32_at s 12 + be32_at s 32)) (Err Invalid) k₂ in
+    let k = cond (ltb (be32_at s 4) (be32_at s 8 + be32_at s 36)) (Err Invalid) k₁ in
     let e = past_header (header_ok s (be32_at s 4)) k d.1 in
     let f = past (ltb (be32_at s 4) (be32_at s 8 + be32_at s 36)) k₁ e.1 in
     let g = past (ltb (be32_at s 4) (be32_at s 12 + be32_at s 32)) k₂ f.1 in
@@ -139,9 +139,9 @@ blocks_answered : (s : List ℕ) (b : Blocks) → inside_of (length s) b.block.f
 unfolding blocks_memory memory_by memory_answer
 blocks_answered s b h k = go (judged_block (block_of s b) (strings_of s b)) where
   go : (v : Verdict) → memory_answer s (memory_by v b) ≡ answered v (pairs_from (block_of s b) (strings_of s b) 0 Token started.nodes (block_of s b))
-  go verdict.Accepted = ap (λ ps. dt.pairs ps) (first_pairs s b h k)
-  go verdict.Invalid = refl
-  go verdict.UnsupportedCellCounts = refl
+  go (Ok u) = ap (λ ps. dt.pairs ps) (first_pairs s b h k)
+  go (Err Invalid) = refl
+  go (Err UnsupportedCellCounts) = refl
 
 -- the header of a blob passes the tests
 blob_tested : (s : List ℕ) (t : Tree) → BlobOf s t → Tested s
@@ -213,7 +213,7 @@ blob_answered s t x =
     ∙ block_answered (span b (field b 8) (field b 36)) (span b (field b 12) (field b 32)) (short_part b (field b 36) (field b 8) (omega arith)) t x.struct))
 
 -- blocks that are invalid make the slice so
-blocks_invalid : (s : List ℕ) (b : Blocks) → judged_block (block_of s b) (strings_of s b) ≡ verdict.Invalid → blocks_memory s b ≡ Invalid
+blocks_invalid : (s : List ℕ) (b : Blocks) → judged_block (block_of s b) (strings_of s b) ≡ Err Invalid → blocks_memory s b ≡ Err Invalid
 unfolding blocks_memory memory_by
 blocks_invalid s b e = ap (λ v. memory_by v b) e
 
@@ -257,7 +257,7 @@ tested_blob s x f =
 pub valid_blob : (s : List ℕ) → (blob_answer s ≡ dt.invalid → ⊥) → Blob s
 unfolding blob_answer memory_answer
 valid_blob s h =
-    let valid : memory_of s ≡ Invalid → ⊥ = λ e. h (ap (λ m. memory_answer s m) e) in
+    let valid : memory_of s ≡ Err Invalid → ⊥ = λ e. h (ap (λ m. memory_answer s m) e) in
     let x = valid_tested s valid in let a = x.most in let b = x.struct_inside in
     tested_blob s x (block_formed (struct_block s) (strings_block s) (short_part s (be32_at s 8 + be32_at s 36 - be32_at s 8) (be32_at s 8) (omega arith))
     (λ e. valid (tested_memory s x ∙ blocks_invalid s (blocks_of s) e)))

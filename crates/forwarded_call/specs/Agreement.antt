@@ -1,9 +1,8 @@
 -- Where a call is handed out as document 01 had it, before document 02's request 3. Assumes nothing.
-use Rattle.std.specs.Prelude.{ℕ, ◌^◌, ◌<◌, ◌≡◌, get_or}
+use Rattle.std.specs.Prelude.{ℕ, ◌^◌, ◌<◌, ◌≡◌, get_or, Ok, Some}
 use Rattle.bits.specs.Bits.{bits_at}
 use Rattle.exceptions.specs.declared.Core.{Core}
 use Rattle.exceptions.specs.declared.Conduit.{Conduit}
-use Rattle.exceptions.specs.declared.Wait.TheVariants.{Call}
 use Rattle.core_answers.specs.declared.TrapAnswer.TheVariants.{Forwarded}
 use Rattle.forwarded_call.specs.declared.ForwardedCall.{ForwardedCall}
 use Rattle.forwarded_call.specs.ForwardedCall.{recipient_of, registers_for, first_registers, with_wait}
@@ -18,6 +17,6 @@ unfoldable pub forward_by_x0 : Core → Conduit → ForwardedCall
 forward_by_x0 core conduit =
     let recipient = recipient_of (get_or core.x 0 0) in
     record {
-      result = record { answer = Forwarded recipient; values = first_registers core.x (registers_for recipient); sve_hint = 0 };
-      core = with_wait core (Call conduit recipient);
+      result = record { answer = (Ok (Forwarded recipient)); values = first_registers core.x (registers_for recipient); sve_hint = 0 };
+      core = with_wait core (Some (conduit, recipient));
     }

@@ -1,28 +1,24 @@
 -- Calls that leave the guest: the hand-out, and the reply (document 01, "Trap", EC 0x16 and 0x17, and "Reply"). Assumes nothing.
-use Rattle.std.specs.Prelude.{ℕ, ◌-◌, Bool, true, false, cond, ◌&&◌, ◌||◌, List, ◌++◌, eqb, leb, ℤ, take, get_or, set, replicate}
+use Rattle.std.specs.Prelude.{ℕ, ◌-◌, Bool, true, false, cond, ◌&&◌, ◌||◌, List, ◌++◌, eqb, leb, ℤ, take, get_or, set, replicate, Err, None, Ok, Result, Some}
 use Rattle.bits.specs.Bits.{bits_at, bit_at, low_bits, with_bits}
 use Rattle.exceptions.specs.declared.Core.{Core}
 use Rattle.exceptions.specs.declared.Conduit.{Conduit}
 use Rattle.exceptions.specs.declared.Conduit.TheVariants.{Hvc, Smc}
 use Rattle.exceptions.specs.declared.Recipient.{Recipient}
 use Rattle.exceptions.specs.declared.Recipient.TheVariants.{Firmware, Platform}
-use Rattle.exceptions.specs.declared.Wait.{Wait}
-use Rattle.exceptions.specs.declared.Wait.TheVariants.{Nothing, Call}
+use Rattle.exceptions.specs.Registers.{Wait}
 use Rattle.exceptions.specs.Registers.{next_instruction}
 use Rattle.core_answers.specs.declared.CoreError.TheVariants.{NothingWaiting, UnknownReplyKind}
-use Rattle.core_answers.specs.declared.CoreAnswer.TheVariants.{Accepted}
 use Rattle.core_answers.specs.declared.CoreStep.{CoreStep}
 use Rattle.core_answers.specs.declared.TrapAnswer.TheVariants.{Forwarded}
 use Rattle.core_answers.specs.declared.TrapResult.{TrapResult}
 use Rattle.core_answers.specs.Answers.{forwarded_length, refused_core}
-use Rattle.hvc_response.specs.declared.HvcResultKind.{HvcResultKind}
-use Rattle.hvc_response.specs.declared.HvcResultKind.TheVariants as kind
 use Rattle.hvc_response.specs.Response.{response, result_of_kind, with_first}
 use Rattle.forwarded_call.specs.declared.ForwardedCall.{ForwardedCall}
 use Rattle.forwarded_call.specs.declared.GuestCall.{GuestCall}
 use Rattle.forwarded_call.specs.declared.HvcReply.{HvcReply}
-use Rattle.forwarded_call.specs.declared.ReplyDecision.{ReplyDecision}
-use Rattle.forwarded_call.specs.declared.ReplyDecision.TheVariants.{Taken, Refused}
+use Rattle.core_answers.specs.declared.CoreError.{CoreError}
+use Rattle.hvc_response.specs.declared.HvcResult.{HvcResult}
 
 -- a number lies between two others, both included
 abbrev pub between : ℕ → ℕ → ℕ → Bool
@@ -70,7 +66,7 @@ forwarded_values id x n = first_registers (set x 0 id) n
 -- what a forwarded call gives its recipient (document 01: a hand-out), "plus the hint"
 abbrev pub forwarded_result : GuestCall → List ℕ → TrapResult
 forwarded_result call x = record {
-  answer = Forwarded call.recipient;
+  answer = Ok (Forwarded call.recipient);
   values = forwarded_values call.function_id x (registers_for call.recipient);
   sve_hint = call.sve_hint;
 }
@@ -83,18 +79,18 @@ with_wait core wait = record { x = core.x; elr = core.elr; spsr = core.spsr; el1
 unfoldable pub forward_call : Core → Conduit → ForwardedCall
 forward_call core conduit =
     let call = guest_call (get_or core.x 0 0) in
-    record { result = forwarded_result call core.x; core = with_wait core (Call conduit call.recipient) }
+    record { result = forwarded_result call core.x; core = with_wait core (Some (conduit, call.recipient)) }
 
 -- a core waits
 abbrev pub waits : Wait → Bool
-waits Nothing = false
-waits (Call conduit recipient) = true
+waits None = false
+waits (Some (conduit, recipient)) = true
 
 -- a core waits for the firmware
 abbrev pub waits_for_firmware : Wait → Bool
-waits_for_firmware Nothing = false
-waits_for_firmware (Call conduit Firmware) = true
-waits_for_firmware (Call conduit Platform) = false
+waits_for_firmware None = false
+waits_for_firmware (Some (conduit, Firmware)) = true
+waits_for_firmware (Some (conduit, Platform)) = false
 
 -- 15 is met where a kind is "not 1 or 4 for the firmware"
 unfoldable pub may_reply : Recipient → ℕ → Bool
@@ -102,15 +98,15 @@ may_reply Firmware kind = eqb kind 1 || eqb kind 4
 may_reply Platform kind = true
 
 -- 15 is met where there is no such kind, too
-abbrev pub taken_by : Conduit → HvcResultKind → ReplyDecision
-taken_by conduit (kind.Result result) = Taken result conduit
-taken_by conduit (kind.Refused error) = Refused error
+abbrev pub taken_by : Conduit → Result HvcResult CoreError → Result (HvcResult × Conduit) CoreError
+taken_by conduit (Ok result) = Ok (result, conduit)
+taken_by conduit (Err error) = Err error
 
 -- what becomes of a reply, by what the core waits for, the reply's kind, first value and error; 14: "reply to a core that waits for none"
-unfoldable pub decide_reply : Wait → ℕ → ℕ → ℤ → ReplyDecision
-decide_reply Nothing kind value error = Refused NothingWaiting
-decide_reply (Call conduit recipient) kind value error =
-    cond (may_reply recipient kind) (taken_by conduit (result_of_kind kind value error)) (Refused UnknownReplyKind)
+unfoldable pub decide_reply : Wait → ℕ → ℕ → ℤ → Result (HvcResult × Conduit) CoreError
+decide_reply None kind value error = Err NothingWaiting
+decide_reply (Some (conduit, recipient)) kind value error =
+    cond (may_reply recipient kind) (taken_by conduit (result_of_kind kind value error)) (Err UnknownReplyKind)
 
 -- "for an SMC, whichever reply it was, ELR grows by 4 modulo 2^64, for an HVC it stays"
 abbrev pub resumed_elr : Conduit → ℕ → ℕ
@@ -119,12 +115,12 @@ resumed_elr Smc elr = next_instruction elr
 
 -- the core goes on there, and waits no more
 unfoldable pub resumed : Conduit → Core → Core
-resumed conduit core = record { x = core.x; elr = resumed_elr conduit core.elr; spsr = core.spsr; el1 = core.el1; wait = Nothing }
+resumed conduit core = record { x = core.x; elr = resumed_elr conduit core.elr; spsr = core.spsr; el1 = core.el1; wait = None }
 
 -- "The reply writes its registers"
-abbrev pub replied_by : ReplyDecision → Core → List ℕ → CoreStep
-replied_by (Taken result conduit) core values = record { answer = Accepted; core = resumed conduit (with_first core (response result values)) }
-replied_by (Refused error) core values = refused_core error core
+abbrev pub replied_by : Result (HvcResult × Conduit) CoreError → Core → List ℕ → CoreStep
+replied_by (Ok (result, conduit)) core values = record { answer = Ok tt; core = resumed conduit (with_first core (response result values)) }
+replied_by (Err error) core values = refused_core error core
 
 unfoldable pub reply_core : Core → HvcReply → CoreStep
 reply_core core reply =

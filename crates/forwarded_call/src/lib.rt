@@ -3,18 +3,18 @@
 #![tactic(auto)]
 
 ghost use Rattle.std.specs.Prelude.{◌≡◌, ◌≤◌};
-ghost use Rattle.forwarded_call.specs.ForwardedCall.{is_fast_call, function_id_of, sve_hint_of, recipient_of, guest_call, registers_for, first_registers, with_wait, forward_call, may_reply, taken_by, decide_reply, resumed_elr, resumed, reply_core};
+ghost use Rattle.forwarded_call.specs.ForwardedCall.{is_fast_call, function_id_of, sve_hint_of, recipient_of, guest_call, registers_for, first_registers, with_wait, forward_call, may_reply, decide_reply, resumed_elr, resumed, reply_core};
 
-use core_answers::{CoreAnswer, CoreError, CoreStep, FORWARDED_VALUES, TrapAnswer, TrapResult};
+use core_answers::{CoreError, CoreStep, FORWARDED_VALUES, TrapAnswer, TrapResult};
 use exceptions::{Conduit, Core, Recipient, Wait};
-use hvc_response::{HvcResult, HvcResultKind, REPLY_VALUES};
+use hvc_response::{HvcResult, REPLY_VALUES};
 
 // What x0 says of a guest's call, by DEN0028 from version 1.3 on.
 #[derive(Clone, Copy)]
 pub struct GuestCall {
     // Document 02's function number.
     pub function_id: u64,
-    // 1 where the caller says that it holds no live SVE state, else 0.
+    // 1 where the caller says that it holds no live SVE state, else 0. (A number, as the word of the result that C reads.)
     pub sve_hint: u64,
     pub recipient: Recipient,
 }
@@ -26,19 +26,13 @@ pub struct ForwardedCall {
     pub core: Core,
 }
 
-// The host's answer to a forwarded call: its kind, the values that the kind uses from the first on, and the error.
+// The host's answer to a forwarded call: its kind, the values that the kind uses from the first on, and the error. (The kind is a number,
+// since refusal 15 is promised of any.)
 #[derive(Clone, Copy)]
 pub struct HvcReply {
     pub kind: u64,
     pub values: [u64; REPLY_VALUES],
     pub error: i32,
-}
-
-// What becomes of a reply: the core takes a result and goes on from a call by a conduit, or the reply is refused.
-#[derive(Clone, Copy)]
-pub enum ReplyDecision {
-    Taken(HvcResult, Conduit),
-    Refused(CoreError),
 }
 
 // W0, the low 32 bits of x0, holds the function identifier. Its bit 31 is set in a fast call and clear in a yielding one; bit 16 of a fast call
@@ -51,6 +45,7 @@ const SVE_HINT: u64 = 1 << 16;
 
 impl GuestCall {
     // Every x0 is a call's.
+    #[tactic(auto, unfolding(crate::specs::ForwardedCall::guest_call))]
     pub fn from_x0(x0: u64) -> Self
         ensures { result ≡ guest_call x0 }
     {
@@ -91,6 +86,7 @@ fn sve_hint(x0: u64) -> u64
 }
 
 // Hands the call out: the core waits for its recipient's reply, and its own x0 is as it was.
+#[tactic(auto, using(crate::proofs::Laws::registers_fit), unfolding(crate::specs::ForwardedCall::forward_call))]
 pub fn forward_call(core: Core, conduit: Conduit) -> ForwardedCall
     ensures { result ≡ forward_call core conduit }
 {
@@ -99,13 +95,13 @@ pub fn forward_call(core: Core, conduit: Conduit) -> ForwardedCall
     let recipient = call.recipient;
     x[0] = call.function_id;
     let result = TrapResult {
-        answer: TrapAnswer::Forwarded(recipient),
+        answer: Ok(TrapAnswer::Forwarded(recipient)),
         values: first_registers(x, registers_for(recipient)),
         sve_hint: call.sve_hint,
     };
     ForwardedCall {
         result,
-        core: wait_for(core, Wait::Call(conduit, recipient)),
+        core: wait_for(core, Some((conduit, recipient))),
     }
 }
 
@@ -130,32 +126,22 @@ pub fn registers_for(recipient: Recipient) -> usize
     }
 }
 
-// The first registers, and zeros past them.
+// The first registers, and zeros past them. (How many they are is the recipient's, not the array's.)
+#[tactic(auto, unfolding(crate::specs::ForwardedCall::first_registers))]
 fn first_registers(x: [u64; 31], count: usize) -> [u64; FORWARDED_VALUES]
     requires { count ≤ 18 }
     ensures { result ≡ first_registers x count }
 {
     let mut values = [0u64; FORWARDED_VALUES];
-    let mut index: usize = 0;
-    while index < count {
-        values[index] = x[index];
-        index += 1;
-    }
+    values[..count].copy_from_slice(&x[..count]);
     values
 }
 
+#[tactic(auto, unfolding(crate::specs::ForwardedCall::with_wait))]
 fn wait_for(core: Core, wait: Wait) -> Core
     ensures { result ≡ with_wait core wait }
 {
-    let x = core.x;
-    let el1 = core.el1;
-    Core {
-        x,
-        elr: core.elr,
-        spsr: core.spsr,
-        el1,
-        wait,
-    }
+    Core { wait, ..core }
 }
 
 // The firmware answers with one value or an error, kinds 1 and 4.
@@ -169,29 +155,21 @@ fn may_reply(recipient: Recipient, kind: u64) -> bool
     }
 }
 
-fn taken_by(conduit: Conduit, res: HvcResultKind) -> ReplyDecision
-    ensures { result ≡ taken_by conduit res }
-{
-    match res {
-        HvcResultKind::Result(res) => ReplyDecision::Taken(res, conduit),
-        HvcResultKind::Refused(error) => ReplyDecision::Refused(error),
-    }
-}
-
 // What becomes of a reply to a core that waits for this, by its kind, its first value and its error: refusals 14 and 15.
-pub fn decide_reply(wait: Wait, kind: u64, value: u64, error: i32) -> ReplyDecision
+#[tactic(auto, unfolding(crate::specs::ForwardedCall::decide_reply))]
+pub fn decide_reply(
+    wait: Wait,
+    kind: u64,
+    value: u64,
+    error: i32,
+) -> Result<(HvcResult, Conduit), CoreError>
     ensures { result ≡ decide_reply wait kind value error }
 {
-    match wait {
-        Wait::Nothing => ReplyDecision::Refused(CoreError::NothingWaiting),
-        Wait::Call(conduit, recipient) => {
-            if may_reply(recipient, kind) {
-                taken_by(conduit, HvcResult::from_kind(kind, value, error))
-            } else {
-                ReplyDecision::Refused(CoreError::UnknownReplyKind)
-            }
-        }
+    let (conduit, recipient) = wait.ok_or(CoreError::NothingWaiting)?;
+    if !may_reply(recipient, kind) {
+        return Err(CoreError::UnknownReplyKind);
     }
+    Ok((HvcResult::from_kind(kind, value, error)?, conduit))
 }
 
 // Where a core goes on: past an SMC, to which ELR still points, and from an HVC's ELR, which points past it.
@@ -204,34 +182,30 @@ pub fn resumed_elr(conduit: Conduit, elr: u64) -> u64
     }
 }
 
+#[tactic(auto, unfolding(crate::specs::ForwardedCall::resumed))]
 fn resume(core: Core, conduit: Conduit) -> Core
     ensures { result ≡ resumed conduit core }
 {
-    let x = core.x;
-    let el1 = core.el1;
     Core {
-        x,
         elr: resumed_elr(conduit, core.elr),
-        spsr: core.spsr,
-        el1,
-        wait: Wait::Nothing,
+        wait: None,
+        ..core
     }
 }
 
 // Gives one core the answer that it waits for.
+#[tactic(auto, unfolding(crate::specs::ForwardedCall::reply_core))]
 pub fn reply_core(core: Core, reply: HvcReply) -> CoreStep
     ensures { result ≡ reply_core core reply }
 {
-    let wait = core.wait;
-    let values = reply.values;
-    match decide_reply(wait, reply.kind, values[0], reply.error) {
-        ReplyDecision::Taken(result, conduit) => {
-            let answered = result.modify_register_state(core, values);
+    match decide_reply(core.wait, reply.kind, reply.values[0], reply.error) {
+        Ok((result, conduit)) => {
+            let answered = result.modify_register_state(core, reply.values);
             CoreStep {
-                answer: CoreAnswer::Accepted,
+                answer: Ok(()),
                 core: resume(answered, conduit),
             }
         }
-        ReplyDecision::Refused(error) => CoreStep::refused(error, core),
+        Err(error) => CoreStep::refused(error, core),
     }
 }

@@ -14,17 +14,17 @@ use borrow.Author.Tests.{lt-ltb, le-ltb, ltb-true}
 use lib.Dec.{ltb}
 use lib.IntN.{ℤ, pos, negsuc, ◌-ℤ◌, nat_abs}
 use lib.Signed.{mag, lt_z}
-use mir.Syntax.{w32}
+use mir.Syntax.{w32, w64}
 use mir.Val.{SFits, to_z, of_z}
 use mir.ValLaws.{to_z_pos, to_z-of_z}
 use Rattle.core_answers.specs.declared.CoreError.TheVariants.{UnknownReplyKind}
-use Rattle.hvc_response.specs.declared.HvcResultKind.TheVariants.{Refused, Result}
 use Rattle.hvc_response.specs.Response.{signed_word, with_first, result_of_kind, result_kind_number, reply_length, response}
 use Rattle.hvc_response.specs.declared.HvcResult.{HvcResult}
 use Rattle.hvc_response.specs.declared.HvcResult.TheVariants.{Unhandled, Value, Success, SuccessLarge, Error}
-use Rattle.hvc_response.specs.declared.HvcResultKind.{HvcResultKind}
 use Rattle.bits.specs.Bits.{FitsWord}
 use Rattle.lists.proofs.Every.{Every, every_append, every_take, every_drop, take_short}
+use Rattle.std.specs.Prelude.{Err, Ok, Result}
+use Rattle.core_answers.specs.declared.CoreError.{CoreError}
 
 -- -1 less a negative number is one less than its amount
 less_one : (n : ℕ) → negsuc 0 -ℤ negsuc n ≡ pos n
@@ -61,6 +61,12 @@ unfolding signed_word
 natural (pos n) f t = (refl, omega arith)
 natural (negsuc n) f t = absurd (true≢false t)
 
+-- the library's cast gives the word of a 32-bit number
+pub cast_word : (z : ℤ) → of_z w64 z ≡ signed_word z
+unfolding signed_word
+cast_word (pos n) = refl
+cast_word (negsuc n) = refl
+
 -- the first registers are written one by one
 next_register : (x values : List ℕ) (i : ℕ) → i < length x → i < length values
     → set (take i values ++ drop i x) i (get_or values i 0) ≡ take (i + 1) values ++ drop (i + 1) x
@@ -92,7 +98,7 @@ module _ (core next : Core) (values : List ℕ) (i : ℕ) (inv : Written core va
 
 -- a kind that is none of 0 to 4
 pub unknown_kind : (kind value : ℕ) (error : ℤ) → (kind ≡ 0 → ⊥) → (kind ≡ 1 → ⊥) → (kind ≡ 2 → ⊥) → (kind ≡ 3 → ⊥) → (kind ≡ 4 → ⊥)
-    → Refused UnknownReplyKind ≡ result_of_kind kind value error
+    → Err UnknownReplyKind ≡ result_of_kind kind value error
 unfolding result_of_kind
 unknown_kind zero value error a b c d e = absurd (a refl)
 unknown_kind (suc zero) value error a b c d e = absurd (b refl)
@@ -119,9 +125,9 @@ ResultFits Success = Unit {0}
 ResultFits SuccessLarge = Unit {0}
 ResultFits (Error error) = FitsWord (signed_word error)
 
-abbrev pub KindFits : HvcResultKind → Type 0
-KindFits (Result result) = ResultFits result
-KindFits (Refused error) = Unit {0}
+abbrev pub KindFits : Result HvcResult CoreError → Type 0
+KindFits (Ok result) = ResultFits result
+KindFits (Err error) = Unit {0}
 
 pub kind_fits : (kind value : ℕ) (error : ℤ) → FitsWord value → FitsWord (signed_word error) → KindFits (result_of_kind kind value error)
 unfolding result_of_kind

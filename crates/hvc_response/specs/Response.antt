@@ -1,13 +1,13 @@
 -- Replies to forwarded calls (document 01, "Reply"). Assumes nothing.
-use Rattle.std.specs.Prelude.{ℕ, suc, ◌-◌, ◌^◌, List, [], ◌∷◌, ◌++◌, length, take, drop, get_or, ℤ, pos, negsuc}
+use Rattle.std.specs.Prelude.{ℕ, suc, ◌-◌, ◌^◌, List, [], ◌∷◌, ◌++◌, length, take, drop, get_or, ℤ, pos, negsuc, Err, Ok, Result}
+use Rattle.lists.specs.Refusals.{answer_number}
 use Rattle.core_answers.specs.declared.CoreError.TheVariants.{UnknownReplyKind}
 use Rattle.core_answers.specs.Answers.{core_error_number}
 use Rattle.exceptions.specs.declared.Core.{Core}
 use Rattle.exceptions.specs.Registers.{with_registers}
 use Rattle.hvc_response.specs.declared.HvcResult.{HvcResult}
 use Rattle.hvc_response.specs.declared.HvcResult.TheVariants.{Unhandled, Value, Success, SuccessLarge, Error}
-use Rattle.hvc_response.specs.declared.HvcResultKind.{HvcResultKind}
-use Rattle.hvc_response.specs.declared.HvcResultKind.TheVariants.{Result, Refused}
+use Rattle.core_answers.specs.declared.CoreError.{CoreError}
 
 -- "sign-extended": the 64-bit two's complement word of a signed number; `negsuc n` is -(n + 1)
 unfoldable pub signed_word : ℤ → ℕ
@@ -36,12 +36,11 @@ unfoldable pub with_first : Core → List ℕ → Core
 with_first core values = with_registers core (values ++ drop (length values) core.x)
 
 -- "Kind 0 unhandled, 1 one value, 2 four values, 3 eighteen values, 4 an error"; 15 "kind above 4"
-unfoldable pub result_of_kind : ℕ → ℕ → ℤ → HvcResultKind
+unfoldable pub result_of_kind : ℕ → ℕ → ℤ → Result HvcResult CoreError
 result_of_kind kind value error =
-    get_or (Result Unhandled ∷ Result (Value value) ∷ Result Success ∷ Result SuccessLarge ∷ Result (Error error) ∷ []) kind
-    (Refused UnknownReplyKind)
+    get_or (Ok Unhandled ∷ Ok (Value value) ∷ Ok Success ∷ Ok SuccessLarge ∷ Ok (Error error) ∷ []) kind
+    (Err UnknownReplyKind)
 
 -- the number of an answer in document 01's table
-abbrev pub result_kind_number : HvcResultKind → ℕ
-result_kind_number (Result r) = 0
-result_kind_number (Refused error) = core_error_number error
+abbrev pub result_kind_number : Result HvcResult CoreError → ℕ
+result_kind_number answer = answer_number core_error_number answer

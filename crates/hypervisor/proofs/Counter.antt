@@ -21,6 +21,7 @@ use Rattle.core_answers.specs.declared.TrapStep.{TrapStep}
 use Rattle.core_answers.specs.Answers.{answered, refused_trap}
 use Rattle.hypervisor.specs.Trap.{ec, class_of, exception_class, by_class, handle_sync_lower}
 use Rattle.hypervisor.proofs.Laws.{by_class_lem}
+use Rattle.std.specs.Prelude.{Ok}
 
 -- the core after a load of the counter word: Rt has the counter as it was, and ELR grows
 abbrev pub counter_read : Core → ℕ → TrapRegisters → Core
@@ -37,7 +38,7 @@ pub record StepLoads (regions : List MemoryAccessRegion) (core : Core) (trap : T
 module _ (regions : List MemoryAccessRegion) (core : Core) (trap : TrapRegisters) where
   pub step_loads : (counter : ℕ) → StepLoads regions core trap
       → handle_sync_lower regions core counter trap
-      ≡ answered (AccessHandled Read) (counter_read core counter trap) ((counter + 1) % 2 ^ 64)
+      ≡ answered (Ok (AccessHandled Read)) (counter_read core counter trap) ((counter + 1) % 2 ^ 64)
   unfolding handle_sync_lower exception_class by_class
   step_loads counter l = rw (l.idle, l.class, counter_answered regions core counter trap l.access)
 

@@ -19,7 +19,6 @@ use Rattle.data_abort.proofs.Laws.{abort_refused}
 use Rattle.core_answers.specs.declared.CoreError.{CoreError}
 use Rattle.core_answers.specs.declared.CoreError.TheVariants.{NoSuchCore, CoreWaiting, UnexpectedExceptionClass}
 use Rattle.core_answers.specs.declared.CoreStep.{CoreStep}
-use Rattle.core_answers.specs.declared.TrapAnswer.TheVariants.{Refused}
 use Rattle.core_answers.specs.declared.TrapStep.{TrapStep}
 use Rattle.core_answers.specs.Answers.{core_number, trap_number, without_values, refused_trap}
 use Rattle.hypervisor.specs.declared.CoresStep.{CoresStep}
@@ -27,6 +26,7 @@ use Rattle.hypervisor.specs.declared.Trapped.{Trapped}
 use Rattle.hypervisor.specs.Trap.{ec, exception_class, by_class, handle_sync_lower}
 use Rattle.hypervisor.specs.Cores.{save_core, on_core, save_on, reply_on, trap_on}
 use Rattle.hypervisor.proofs.Laws.{by_class_lem}
+use Rattle.std.specs.Prelude.{Err}
 
 -- a save or a reply of one core
 abbrev CoreKept : Core → CoreStep → Type 0
@@ -72,12 +72,12 @@ step_refused regions core counter trap =
 pub trap_refused : (policy : Policy) (cores : List Core) (counter i : ℕ) (trap : TrapRegisters)
     → (trap_number (trap_on policy cores counter i trap).result.answer ≡ 0 → ⊥)
     → (error : CoreError)
-    × (trap_on policy cores counter i trap ≡ record { result = without_values (Refused error); policy = policy; cores = cores; counter = counter })
+    × (trap_on policy cores counter i trap ≡ record { result = without_values (Err error); policy = policy; cores = cores; counter = counter })
 unfolding trap_on
 trap_refused policy cores counter i trap =
     cond_all
     (λ (t : Trapped). (trap_number t.result.answer ≡ 0 → ⊥)
-    → (error : CoreError) × (t ≡ record { result = without_values (Refused error); policy = policy; cores = cores; counter = counter }))
+    → (error : CoreError) × (t ≡ record { result = without_values (Err error); policy = policy; cores = cores; counter = counter }))
     (ltb 7 i) _ _
     (λ h. (NoSuchCore, refl))
     (λ h.

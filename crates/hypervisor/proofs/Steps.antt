@@ -17,12 +17,12 @@ use Rattle.exceptions.specs.Registers.{core_of, fresh_core}
 use Rattle.core_answers.specs.declared.CoreStep.{CoreStep}
 use Rattle.hypervisor.specs.declared.CoresStep.{CoresStep}
 use Rattle.core_answers.specs.declared.CoreError.TheVariants.{NoSuchCore}
-use Rattle.core_answers.specs.declared.TrapAnswer.TheVariants.{Refused}
 use Rattle.core_answers.specs.declared.TrapStep.{TrapStep}
 use Rattle.core_answers.specs.Answers.{without_values}
 use Rattle.hypervisor.specs.declared.Trapped.{Trapped}
 use Rattle.hypervisor.specs.Trap.{handle_sync_lower}
 use Rattle.hypervisor.specs.Cores.{on_core, trapped_by, trap_on}
+use Rattle.std.specs.Prelude.{Err}
 
 -- the cores with one of the eight replaced: a number above 7 names none
 abbrev replaced : List Core → ℕ → Core → List Core
@@ -79,7 +79,7 @@ trap_by_regions p q cores counter i trap e = go (ltb 7 i)
   where
     by : Bool → Policy → Trapped
     by above policy =
-        cond above (record { result = without_values (Refused NoSuchCore); policy = policy; cores = cores; counter = counter })
+        cond above (record { result = without_values (Err NoSuchCore); policy = policy; cores = cores; counter = counter })
         (trapped_by (handle_sync_lower (regions_held policy) (core_of cores i) counter trap) policy cores i)
 
     go : (above : Bool) → by above p ≡ record { result = (by above q).result; policy = p; cores = (by above q).cores; counter = (by above q).counter }

@@ -1,5 +1,5 @@
 -- Save, reply and trap, on one core and on one of eight (document 01, "Core", "Reply", "Trap"). Assumes nothing.
-use Rattle.std.specs.Prelude.{ℕ, not, cond, ◌&&◌, ◌||◌, List, [], ◌∷◌, eqb, ltb, set, replicate}
+use Rattle.std.specs.Prelude.{ℕ, not, cond, ◌&&◌, ◌||◌, List, [], ◌∷◌, eqb, ltb, set, replicate, Err, Ok}
 use Rattle.lists.specs.Refusals.{Case, case}
 use Rattle.data_abort.specs.declared.TrapRegisters.{TrapRegisters}
 use Rattle.data_abort.specs.DataAbort.{injection_due}
@@ -9,12 +9,10 @@ use Rattle.exceptions.specs.declared.Core.{Core}
 use Rattle.exceptions.specs.Registers.{fresh_core, core_of}
 use Rattle.stage2.specs.declared.Policy.{Policy}
 use Rattle.stage2.specs.Policy.{regions_held}
-use Rattle.core_answers.specs.declared.CoreAnswer.TheVariants.{Accepted, Refused}
 use Rattle.core_answers.specs.declared.CoreError.{CoreError}
 use Rattle.core_answers.specs.declared.CoreError.TheVariants.{NoSuchCore, CoreWaiting, UnexpectedExceptionClass, NoGuestVector, NothingWaiting, UnknownReplyKind}
 use Rattle.core_answers.specs.declared.CoreStep.{CoreStep}
 use Rattle.hypervisor.specs.declared.CoresStep.{CoresStep}
-use Rattle.core_answers.specs.declared.TrapAnswer.TheVariants as trap-answer
 use Rattle.core_answers.specs.declared.TrapStep.{TrapStep}
 use Rattle.hypervisor.specs.declared.Trapped.{Trapped}
 use Rattle.core_answers.specs.Answers.{without_values, refused_core}
@@ -28,11 +26,11 @@ fresh_cores = replicate 8 fresh_core
 unfoldable pub save_core : Core → List ℕ → ℕ → ℕ → CoreStep
 save_core core x elr spsr =
     cond (waits core.wait) (refused_core CoreWaiting core)
-    (record { answer = Accepted; core = record { x = x; elr = elr; spsr = spsr; el1 = core.el1; wait = core.wait } })
+    (record { answer = Ok tt; core = record { x = x; elr = elr; spsr = spsr; el1 = core.el1; wait = core.wait } })
 
 -- 10: "number above 7"
 abbrev pub no_such_core : List Core → CoresStep
-no_such_core cores = record { answer = Refused NoSuchCore; cores = cores }
+no_such_core cores = record { answer = Err NoSuchCore; cores = cores }
 
 -- "one core replaced per step"
 abbrev pub placed : List Core → ℕ → CoreStep → CoresStep
@@ -58,7 +56,7 @@ trapped_by step policy cores i = record { result = step.result; policy = policy;
 unfoldable pub trap_on : Policy → List Core → ℕ → ℕ → TrapRegisters → Trapped
 trap_on policy cores counter i trap =
     cond (ltb 7 i)
-    (record { result = without_values (trap-answer.Refused NoSuchCore); policy = policy; cores = cores; counter = counter })
+    (record { result = without_values (Err NoSuchCore); policy = policy; cores = cores; counter = counter })
     (trapped_by (handle_sync_lower (regions_held policy) (core_of cores i) counter trap) policy cores i)
 
 -- the lines of the table that `save` meets: "save 10, 11"

@@ -2,19 +2,21 @@
 
 #![tactic(auto)]
 
-ghost use Rattle.std.specs.Prelude.{◌≡◌, ◌<◌};
+ghost use Rattle.std.specs.Prelude.{◌≡◌, ◌<◌, ◌≤◌};
+ghost use Rattle.exceptions.specs.Registers.{core_of};
+ghost use Rattle.core_answers.specs.declared.CoreStep.{CoreStep};
 ghost use Rattle.lists.specs.Lists.{held};
 ghost use Rattle.hypervisor.specs.Trap.{exception_class, forwarded, by_class, handle_sync_lower};
 ghost use Rattle.hypervisor.specs.Cores.{fresh_cores, save_core, no_such_core, placed, save_on, reply_on, trap_on};
 
-use core_answers::{CoreAnswer, CoreError, CoreStep, TrapAnswer, TrapResult, TrapStep};
+use core_answers::{CoreError, CoreStep, TrapAnswer, TrapResult, TrapStep};
 use data_abort::TrapRegisters;
 use exceptions::{Conduit, Core, Wait};
 use forwarded_call::{ForwardedCall, HvcReply};
 use stage2::Policy;
 use stage2_range::MemoryAccessRegion;
 
-// What `trap` gives, and the state then.
+// What `trap` gives, and the state then, of a refusal too (as `CoreStep`).
 #[derive(Clone, Copy)]
 pub struct Trapped {
     pub result: TrapResult,
@@ -23,14 +25,15 @@ pub struct Trapped {
     pub counter: u64,
 }
 
-// What `save` and `reply` answer, and the cores then.
+// What `save` and `reply` answer, and the cores then, of a refusal too (as `CoreStep`).
 #[derive(Clone, Copy)]
 pub struct CoresStep {
-    pub answer: CoreAnswer,
+    pub answer: Result<(), CoreError>,
     pub cores: [Core; 8],
 }
 
-// A trap of one core, by the regions that are held.
+// A trap of one core, by the regions that are held. (The parameters stand apart, here and where it passes them on: README names this
+// function as it is.)
 #[tactic(auto, unfolding(crate::specs::Trap::handle_sync_lower))]
 pub fn handle_sync_lower(
     regions: [MemoryAccessRegion; 16],
@@ -41,10 +44,9 @@ pub fn handle_sync_lower(
 ) -> TrapStep
     ensures { result ≡ handle_sync_lower (held 16 region_count regions) core counter trap }
 {
-    let wait = core.wait;
-    match wait {
-        Wait::Nothing => dispatch(regions, region_count, core, counter, trap),
-        Wait::Call(_, _) => TrapStep::refused(CoreError::CoreWaiting, core, counter),
+    match core.wait {
+        None => dispatch(regions, region_count, core, counter, trap),
+        Some(_) => TrapStep::refused(CoreError::CoreWaiting, core, counter),
     }
 }
 
@@ -105,11 +107,9 @@ pub fn exception_class(esr: u64) -> ExceptionClass
 fn forwarded(call: ForwardedCall, counter: u64) -> TrapStep
     ensures { result ≡ forwarded call counter }
 {
-    let result = call.result;
-    let core = call.core;
     TrapStep {
-        result,
-        core,
+        result: call.result,
+        core: call.core,
         counter,
     }
 }
@@ -119,56 +119,65 @@ fn forwarded(call: ForwardedCall, counter: u64) -> TrapStep
 pub fn save_core(core: Core, x: [u64; 31], elr: u64, spsr: u64) -> CoreStep
     ensures { result ≡ save_core core x elr spsr }
 {
-    let wait = core.wait;
-    let el1 = core.el1;
-    match wait {
-        Wait::Nothing => CoreStep {
-            answer: CoreAnswer::Accepted,
+    match core.wait {
+        None => CoreStep {
+            answer: Ok(()),
             core: Core {
                 x,
                 elr,
                 spsr,
-                el1,
-                wait,
+                ..core
             },
         },
-        Wait::Call(_, _) => CoreStep::refused(CoreError::CoreWaiting, core),
+        Some(_) => CoreStep::refused(CoreError::CoreWaiting, core),
     }
 }
 
 const MAX_CORES: u64 = 8;
 
 // Eight fresh cores.
+#[tactic(auto, unfolding(crate::specs::Cores::fresh_cores))]
 pub fn fresh_cores() -> [Core; 8]
     ensures { result ≡ fresh_cores }
 {
     [Core::fresh(); 8]
 }
 
+// A step of one of the eight: one core is replaced.
+fn on_core<F: FnOnce(Core) -> CoreStep>(cores: [Core; 8], core: u64, step: F) -> CoresStep
+    requires { F.IsAlwaysCallable step }
+    ensures none { 7 < core → result ≡ no_such_core cores }
+    ensures one { core ≤ 7 → (s : CoreStep) × F.post step (core_of cores core) s × (result ≡ placed cores core s) }
+{
+    if MAX_CORES <= core {
+        return CoresStep {
+            answer: Err(CoreError::NoSuchCore),
+            cores,
+        };
+    }
+    let stepped = step(cores[core as usize]);
+    let mut next = cores;
+    next[core as usize] = stepped.core;
+    CoresStep {
+        answer: stepped.answer,
+        cores: next,
+    }
+}
+
 // Puts in a core's registers as the hardware saved them.
-#[tactic(auto, using(lists::proofs::Laws::get_d_any), unfolding(crate::specs::Cores::on_core, crate::specs::Cores::save_on))]
+#[tactic(auto, unfolding(crate::specs::Cores::on_core, crate::specs::Cores::save_on))]
 pub fn save(cores: [Core; 8], core: u64, x: [u64; 31], elr: u64, spsr: u64) -> CoresStep
     ensures { result ≡ save_on cores core x elr spsr }
 {
-    if MAX_CORES <= core {
-        return refuse_cores(cores);
-    }
-    let one = cores[core as usize];
-    let step = save_core(one, x, elr, spsr);
-    place(cores, core, step)
+    on_core(cores, core, |one| save_core(one, x, elr, spsr))
 }
 
 // Gives a core the answer that it waits for.
-#[tactic(auto, using(lists::proofs::Laws::get_d_any), unfolding(crate::specs::Cores::on_core, crate::specs::Cores::reply_on))]
+#[tactic(auto, unfolding(crate::specs::Cores::on_core, crate::specs::Cores::reply_on))]
 pub fn reply(cores: [Core; 8], core: u64, reply: HvcReply) -> CoresStep
     ensures { result ≡ reply_on cores core reply }
 {
-    if MAX_CORES <= core {
-        return refuse_cores(cores);
-    }
-    let one = cores[core as usize];
-    let step = forwarded_call::reply_core(one, reply);
-    place(cores, core, step)
+    on_core(cores, core, |one| forwarded_call::reply_core(one, reply))
 }
 
 // Takes a core's trap.
@@ -184,47 +193,20 @@ pub fn trap(
 {
     if MAX_CORES <= core {
         return Trapped {
-            result: TrapAnswer::Refused(CoreError::NoSuchCore).without_values(),
+            result: TrapResult::without_values(Err(CoreError::NoSuchCore)),
             policy,
             cores,
             counter,
         };
     }
     let one = cores[core as usize];
-    let regions = policy.regions;
-    let step = handle_sync_lower(regions, policy.region_count, one, counter, trap);
-    let result = step.result;
-    let after = step.core;
+    let step = handle_sync_lower(policy.regions, policy.region_count, one, counter, trap);
     let mut next = cores;
-    next[core as usize] = after;
+    next[core as usize] = step.core;
     Trapped {
-        result,
+        result: step.result,
         policy,
         cores: next,
         counter: step.counter,
-    }
-}
-
-fn refuse_cores(cores: [Core; 8]) -> CoresStep
-    ensures { result ≡ no_such_core cores }
-{
-    CoresStep {
-        answer: CoreAnswer::Refused(CoreError::NoSuchCore),
-        cores,
-    }
-}
-
-// One core is replaced.
-fn place(cores: [Core; 8], core: u64, step: CoreStep) -> CoresStep
-    requires { core < 8 }
-    ensures { result ≡ placed cores core step }
-{
-    let answer = step.answer;
-    let after = step.core;
-    let mut next = cores;
-    next[core as usize] = after;
-    CoresStep {
-        answer,
-        cores: next,
     }
 }

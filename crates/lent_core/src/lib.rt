@@ -1,5 +1,6 @@
 // One core of the bytes that a host lends, in place: the words that a step asks for are read and stored, and no others. A core above 7 reads as a fresh
 // one and takes no store.
+// (A call answers the number of its refusal, and no `Result`: `ritm` hands the number to C.)
 
 #![tactic(auto)]
 
@@ -12,7 +13,8 @@ ghost use Rattle.lent_cores.specs.Layout.{elr_word, core_length, held_core, stor
 ghost use Rattle.lent_core.specs.Calls.{save_call, read_call, write_call};
 
 use core_answers::{CoreError, FORWARDED_VALUES, TrapAnswer};
-use exceptions::{FaultRegisters, GprRead, GprWrite, Wait};
+use data_abort::Injection;
+use exceptions::{GuestRegisterWriteError, Wait};
 use forwarded_call::GuestCall;
 use lent_cores::{
     CORE_WORDS, CORES_SIZE, ELR_EL1_WORD, ELR_WORD, ESR_EL1_WORD, FAR_EL1_WORD, HINT_WORD,
@@ -20,8 +22,9 @@ use lent_cores::{
     WAIT_WORD,
 };
 use lent_words::ONE_WORD;
+use lists::refusal::{self, Refusal};
 
-// One word of a core, 0 where there is no core of that number.
+// One word of a core, 0 where there is no core of that number. (No option: as `get_core`.)
 fn get_at(cores: &[u8; CORES_SIZE], core: u64, word: usize) -> u64
     requires { word < core_length }
     ensures { result ≡ held_word cores.now core word }
@@ -56,13 +59,13 @@ pub fn get_spsr(cores: &[u8; CORES_SIZE], core: u64) -> u64
 
 // The value of a guest register.
 #[tactic(auto, using(crate::proofs::InPlace::core_gpr), unfolding(exceptions::specs::Registers::read_gpr))]
-pub fn get_gpr(cores: &[u8; CORES_SIZE], core: u64, index: usize) -> GprRead
+pub fn get_gpr(cores: &[u8; CORES_SIZE], core: u64, index: usize) -> Option<u64>
     ensures { result ≡ read_gpr (held_core cores.now core) index }
 {
     match index {
-        0..=30 => GprRead::Value(get_at(cores, core, index)),
-        31 => GprRead::Value(0),
-        _ => GprRead::NoSuchRegister,
+        0..=30 => Some(get_at(cores, core, index)),
+        31 => Some(0),
+        _ => None,
     }
 }
 
@@ -75,8 +78,7 @@ fn forwarded_at(cores: &[u8; CORES_SIZE], core: u64, call: GuestCall, index: usi
     if index == 0 {
         return call.function_id;
     }
-    let recipient = call.recipient;
-    if index < forwarded_call::registers_for(recipient) {
+    if index < forwarded_call::registers_for(call.recipient) {
         get_at(cores, core, index)
     } else {
         0
@@ -92,13 +94,10 @@ pub fn put_forwarded(
 )
     ensures { res.new ≡ bytes_of (result_words (forwarded_result call (held_core cores.now core).x)) }
 {
-    let recipient = call.recipient;
-    let answer = TrapAnswer::Forwarded(recipient);
-    lent_words::put_word(res, 0, answer.kind());
-    let mut i: usize = 0;
-    while i < FORWARDED_VALUES {
-        lent_words::put_word(res, i + VALUES_WORD, forwarded_at(cores, core, call, i));
-        i += 1;
+    let answer = Ok(TrapAnswer::Forwarded(call.recipient));
+    lent_words::put_word(res, 0, core_answers::trap_kind(answer));
+    for i in 0..FORWARDED_VALUES {
+        lent_words::put_word(res, VALUES_WORD + i, forwarded_at(cores, core, call, i));
     }
     lent_words::put_word(res, HINT_WORD, call.sve_hint);
 }
@@ -133,7 +132,12 @@ pub fn put_advanced(cores: &mut [u8; CORES_SIZE], core: u64)
 
 // Writes a guest register.
 #[tactic(auto, using(crate::proofs::InPlace::gpr_put, crate::proofs::InPlace::gpr_kept), unfolding(exceptions::specs::Registers::write_gpr))]
-pub fn put_gpr(cores: &mut [u8; CORES_SIZE], core: u64, index: usize, value: u64) -> GprWrite
+pub fn put_gpr(
+    cores: &mut [u8; CORES_SIZE],
+    core: u64,
+    index: usize,
+    value: u64,
+) -> Result<(), GuestRegisterWriteError>
     ensures { (result ≡ (write_gpr (held_core cores.old core) index value).answer)
         × (cores.new
         ≡ stored_core cores.old core (write_gpr (held_core cores.old core) index value).core) }
@@ -142,10 +146,10 @@ pub fn put_gpr(cores: &mut [u8; CORES_SIZE], core: u64, index: usize, value: u64
     match index {
         0..=30 => {
             put_at(cores, core, index, value);
-            GprWrite::Accepted
+            Ok(())
         }
-        31 => GprWrite::Accepted,
-        _ => GprWrite::GuestRegisterWriteError,
+        31 => Ok(()),
+        _ => Err(GuestRegisterWriteError),
     }
 }
 
@@ -155,7 +159,8 @@ pub fn put_load(cores: &mut [u8; CORES_SIZE], core: u64, index: usize, value: u6
         ≡ stored_core cores.old core (advance_pc (write_gpr (held_core cores.old core) index value).core) }
 {
     let trapped = get_elr(cores, core);
-    put_gpr(cores, core, index, value);
+    // Above 31 nothing is written, and a load is done all the same.
+    let _ = put_gpr(cores, core, index, value);
     put_past(cores, core, trapped);
 }
 
@@ -177,23 +182,24 @@ pub fn put_wait(cores: &mut [u8; CORES_SIZE], core: u64, wait: Wait)
 }
 
 // Stores a core's ELR, SPSR and EL1 registers, as an injected abort sets them.
-pub fn put_return(cores: &mut [u8; CORES_SIZE], core: u64, elr: u64, spsr: u64, el1: FaultRegisters)
+pub fn put_return(cores: &mut [u8; CORES_SIZE], core: u64, to: Injection)
     ensures { cores.new
-        ≡ stored_core cores.old core (with_return (held_core cores.old core) elr spsr el1) }
+        ≡ stored_core cores.old core (with_return (held_core cores.old core) to.elr to.spsr to.el1) }
 {
     lent_words::are_bytes(cores);
     if core < 8 {
         let at = CORE_WORDS * core as usize;
-        lent_words::put_word(cores, at + ELR_WORD, elr);
-        lent_words::put_word(cores, at + SPSR_WORD, spsr);
-        lent_words::put_word(cores, at + ELR_EL1_WORD, el1.elr);
-        lent_words::put_word(cores, at + SPSR_EL1_WORD, el1.spsr);
-        lent_words::put_word(cores, at + FAR_EL1_WORD, el1.far);
-        lent_words::put_word(cores, at + ESR_EL1_WORD, el1.esr);
+        lent_words::put_word(cores, at + ELR_WORD, to.elr);
+        lent_words::put_word(cores, at + SPSR_WORD, to.spsr);
+        lent_words::put_word(cores, at + ELR_EL1_WORD, to.el1.elr);
+        lent_words::put_word(cores, at + SPSR_EL1_WORD, to.el1.spsr);
+        lent_words::put_word(cores, at + FAR_EL1_WORD, to.el1.far);
+        lent_words::put_word(cores, at + ESR_EL1_WORD, to.el1.esr);
     }
 }
 
 // Puts in a core's registers as the hardware saved them: refusals 10, 11.
+#[tactic(auto, using(crate::proofs::Calls::save_none, crate::proofs::Calls::save_one, core_answers::proofs::Laws::error_not_zero))]
 pub fn save(cores: &mut [u8; CORES_SIZE], core: u64, registers: &[u8; REGISTERS_SIZE]) -> u64
     ensures { Leaves (save_call cores.old core registers.now) result cores.new [] }
 {
@@ -204,14 +210,13 @@ pub fn save(cores: &mut [u8; CORES_SIZE], core: u64, registers: &[u8; REGISTERS_
     let elr = lent_cores::get_saved_elr(registers);
     let spsr = lent_cores::get_saved_spsr(registers);
     let step = hypervisor::save_core(lent_cores::get_core(cores, core), x, elr, spsr);
-    let answer = step.answer;
-    let number = answer.number();
-    if number != 0 {
-        return number;
+    match step.answer {
+        Ok(()) => {
+            lent_cores::put_core(cores, core, step.core);
+            0
+        }
+        Err(error) => error.number(),
     }
-    let after = step.core;
-    lent_cores::put_core(cores, core, after);
-    0
 }
 
 // The value of a guest register: refusals 10, 17.
@@ -224,11 +229,12 @@ pub fn read_gpr(cores: &[u8; CORES_SIZE], core: u64, index: u64, res: &mut [u8; 
         return CoreError::NoSuchCore.number();
     }
     let read = get_gpr(cores, core, index as usize);
-    lent_words::put_one_word(res, read.value());
-    read.number()
+    lent_words::put_one_word(res, exceptions::read_value(read));
+    exceptions::read_number(read)
 }
 
 // Writes a guest register: refusals 10, 17.
+#[tactic(auto, using(crate::proofs::Calls::write_one), unfolding(crate::specs::Calls::write_call))]
 pub fn write_gpr(cores: &mut [u8; CORES_SIZE], core: u64, index: u64, value: u64) -> u64
     ensures { Leaves (write_call cores.old core index value) result cores.new [] }
 {
@@ -237,5 +243,5 @@ pub fn write_gpr(cores: &mut [u8; CORES_SIZE], core: u64, index: u64, value: u64
     }
     // A refusal stores the core as it stands: of bytes, that changes nothing.
     lent_words::are_bytes(cores);
-    put_gpr(cores, core, index as usize, value).number()
+    refusal::answer_number(put_gpr(cores, core, index as usize, value))
 }

@@ -1,27 +1,30 @@
 -- Laws of cores in lent bytes: a core that was stored is read back, and what stands beside it is as it was. Assumes nothing.
-use Prim.Native.Nat.{ℕ, zero, suc, ◌+◌, ◌*◌, ◌<◌, ◌≤◌}
-use mathlib.Core.Path.{◌≡◌, refl, ap, ◌∙◌}
+use Prim.Native.Nat.{ℕ, zero, suc, ◌+◌, ◌-◌, ◌*◌, ◌^◌, ◌<◌, ◌≤◌, min}
+use mathlib.Core.Path.{◌≡◌, refl, sym, ap, ◌∙◌}
+use mathlib.Core.Bool.{Bool, true, false}
+use lib.Dec.{ltb}
+use borrow.Author.Tests.{ltb-true, ltb-false}
 use mathlib.Core.List.{List, [], ◌∷◌, ◌++◌}
 use native.Mathlib.Omega.{arith}
 use native.Mathlib.Nat.{zero-add}
 use lib.ListN.{length, get_or, take, drop, length-append, get_or-eq_default, set}
 use lib.Seq.{take_at, drop_at, get_or-set_same}
 use Rattle.lent_words.specs.Words.{word_at, each, kept_code, FitsWord, Lent, Bytes}
-use Rattle.lent_words.proofs.Words.{get_d_each, length-each, word_same}
+use Rattle.lent_words.proofs.Words.{get_d_each, length-each, word_same, word_missing}
 use Rattle.lent_words.proofs.RoundTrip.{words_beside, lent_words, word_fits, code_fits, meaning_back}
 use Rattle.lent_words.proofs.Every.{every_append, every_each}
 use Rattle.lent_words.proofs.Records.{InWords, record_written, record_kept}
 use Rattle.exceptions.specs.declared.Conduit.TheVariants.{Hvc, Smc}
 use Rattle.exceptions.specs.declared.Recipient.TheVariants.{Firmware, Platform}
-use Rattle.exceptions.specs.declared.Wait.{Wait}
-use Rattle.exceptions.specs.declared.Wait.TheVariants.{Nothing, Call}
+use Rattle.exceptions.specs.Registers.{Wait}
 use Rattle.exceptions.specs.declared.Core.{Core}
 use Rattle.exceptions.specs.Registers.{fresh_core, core_of}
 use Rattle.lent_cores.specs.Layout.{wait_codes, wait_by_code, wait_number, core_at, fault_words, with_core, cores_at, counter_at, with_counter, core_length, wait_word, counter_word, cores_size, elr_word, spsr_word, elr_el1_word, spsr_el1_word, far_el1_word, esr_el1_word}
 use Rattle.exceptions.proofs.InWords as core
+use Rattle.std.specs.Prelude.{None, Some}
 
 -- a code that names nothing else is nothing
-pub unknown_wait : (code : ℕ) → (code ≡ 1 → ⊥) → (code ≡ 2 → ⊥) → (code ≡ 3 → ⊥) → (code ≡ 4 → ⊥) → wait_by_code code ≡ Nothing
+pub unknown_wait : (code : ℕ) → (code ≡ 1 → ⊥) → (code ≡ 2 → ⊥) → (code ≡ 3 → ⊥) → (code ≡ 4 → ⊥) → wait_by_code code ≡ None
 unfolding wait_by_code
 unknown_wait zero a b c d = refl
 unknown_wait (suc zero) a b c d = absurd (a refl)
@@ -51,16 +54,16 @@ core-set cores i core h = get_or-set_same (cores_at cores) i core fresh_core (om
 -- the number of a wait is a code that means it
 pub wait_code : (w : Wait) → (wait_number w < length wait_codes) × (wait_by_code (wait_number w) ≡ w)
 unfolding wait_by_code
-wait_code Nothing = (omega arith, refl)
-wait_code (Call Hvc Firmware) = (omega arith, refl)
-wait_code (Call Hvc Platform) = (omega arith, refl)
-wait_code (Call Smc Firmware) = (omega arith, refl)
-wait_code (Call Smc Platform) = (omega arith, refl)
+wait_code None = (omega arith, refl)
+wait_code (Some (Hvc, Firmware)) = (omega arith, refl)
+wait_code (Some (Hvc, Platform)) = (omega arith, refl)
+wait_code (Some (Smc, Firmware)) = (omega arith, refl)
+wait_code (Some (Smc, Platform)) = (omega arith, refl)
 
 -- a wait that was written is read back
 pub wait_back : (old : ℕ) (w : Wait) → wait_by_code (kept_code (length wait_codes) old (wait_number w)) ≡ w
 unfolding wait_by_code
-wait_back old w = meaning_back wait_by_code (length wait_codes) (λ c l. get_or-eq_default wait_codes Nothing {n = c} l) old (wait_number w) (wait_code w).0 ∙ (wait_code w).1
+wait_back old w = meaning_back wait_by_code (length wait_codes) (λ c l. get_or-eq_default wait_codes None {n = c} l) old (wait_number w) (wait_code w).0 ∙ (wait_code w).1
 
 -- the core that words make
 abbrev pub core_from : List ℕ → Core
@@ -143,3 +146,11 @@ counter_lent b n lent = lent_words b counter_word (n ∷ []) lent
 pub counter_back : (b : List ℕ) (n : ℕ) → length b ≡ cores_size → FitsWord n → counter_at (with_counter b n) ≡ n
 unfolding counter_at with_counter
 counter_back b n long fits = word_same b counter_word n (omega arith) fits
+
+-- where the number of a place does not fit 64 bits there is no word, nor is there one at the largest that fits
+pub word_past : (b : List ℕ) (k r : ℕ) → length b < 2 ^ 64 → r ≡ min k (2 ^ 64 - 1) → word_at b r ≡ word_at b k
+word_past b k r h e = go (ltb k (2 ^ 64)) refl
+  where
+    go : (t : Bool) → ltb k (2 ^ 64) ≡ t → word_at b r ≡ word_at b k
+    go true f = let s : r ≡ k = omega (arith, ltb-true k (2 ^ 64) f) in ap (word_at b) s
+    go false f = let p = ltb-false k (2 ^ 64) f in word_missing b r (omega arith) ∙ sym (word_missing b k (omega arith))

@@ -1,10 +1,9 @@
 -- Where the words of the cores and of the counter stand in the bytes that a host lends. Any bytes are eight cores. Assumes nothing.
-use Rattle.std.specs.Prelude.{ℕ, ◌+◌, ◌*◌, cond, List, [], ◌∷◌, ◌++◌, ltb, length, get_or}
+use Rattle.std.specs.Prelude.{ℕ, ◌+◌, ◌*◌, cond, List, [], ◌∷◌, ◌++◌, ltb, length, get_or, None, Ok, Some}
 use Rattle.lent_words.specs.Words.{word_at, with_word, each, words_at, with_words, kept_code}
 use Rattle.exceptions.specs.declared.Conduit.TheVariants.{Hvc, Smc}
 use Rattle.exceptions.specs.declared.Recipient.TheVariants.{Firmware, Platform}
-use Rattle.exceptions.specs.declared.Wait.{Wait}
-use Rattle.exceptions.specs.declared.Wait.TheVariants.{Nothing, Call}
+use Rattle.exceptions.specs.Registers.{Wait}
 use Rattle.exceptions.specs.declared.Core.{Core}
 use Rattle.exceptions.specs.declared.FaultRegisters.{FaultRegisters}
 use Rattle.exceptions.specs.Registers.{core_of}
@@ -13,17 +12,17 @@ use Rattle.core_answers.specs.Answers.{without_values, result_words}
 
 -- what a core waits for, by its code; an unknown code is nothing
 abbrev pub wait_codes : List Wait
-wait_codes = Nothing ∷ Call Hvc Firmware ∷ Call Hvc Platform ∷ Call Smc Firmware ∷ Call Smc Platform ∷ []
+wait_codes = None ∷ Some (Hvc, Firmware) ∷ Some (Hvc, Platform) ∷ Some (Smc, Firmware) ∷ Some (Smc, Platform) ∷ []
 
 unfoldable pub wait_by_code : ℕ → Wait
-wait_by_code code = get_or wait_codes code Nothing
+wait_by_code code = get_or wait_codes code None
 
 abbrev pub wait_number : Wait → ℕ
-wait_number Nothing = 0
-wait_number (Call Hvc Firmware) = 1
-wait_number (Call Hvc Platform) = 2
-wait_number (Call Smc Firmware) = 3
-wait_number (Call Smc Platform) = 4
+wait_number None = 0
+wait_number (Some (Hvc, Firmware)) = 1
+wait_number (Some (Hvc, Platform)) = 2
+wait_number (Some (Smc, Firmware)) = 3
+wait_number (Some (Smc, Platform)) = 4
 
 -- the words of a core: x0 to x30, ELR, SPSR, ELR_EL1, SPSR_EL1, FAR_EL1, ESR_EL1 and the code of what it waits for
 abbrev pub elr_word : ℕ
@@ -62,7 +61,7 @@ abbrev pub registers_size : ℕ
 registers_size = 8 * (spsr_word + 1)
 
 abbrev pub trap_result_size : ℕ
-trap_result_size = 8 * length (result_words (without_values AbortInjected))
+trap_result_size = 8 * length (result_words (without_values (Ok AbortInjected)))
 
 unfoldable pub core_at : List ℕ → ℕ → Core
 core_at cores i =

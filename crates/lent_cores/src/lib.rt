@@ -1,9 +1,11 @@
 // Where the bytes that a host lends hold the cores, the counter, and what goes into a core's calls and comes out: little-endian 64-bit words at fixed
 // places. Any bytes are eight cores.
+// (`core < 8` stands in each private contract here and in the crates of a core's calls: of a type for it each clause would say `core.number`, and
+// each call from C would build one.)
 
 #![tactic(auto)]
 
-ghost use Rattle.std.specs.Prelude.{◌≡◌, ◌+◌, ◌≤◌, ◌<◌};
+ghost use Rattle.std.specs.Prelude.{◌≡◌, ◌+◌, ◌≤◌, ◌<◌, ◌^◌, length};
 ghost use Rattle.core_answers.specs.Answers.{result_words};
 ghost use Rattle.lent_words.specs.Words.{word_at, words_at, with_word, with_words, store_each, bytes_of};
 ghost use Rattle.lent_cores.specs.Layout.{elr_word, spsr_word, elr_el1_word, fault_words, wait_by_code, wait_number, core_at, held_core, stored_core, counter_at, with_core, with_counter};
@@ -49,17 +51,17 @@ pub const TRAP_RESULT_SIZE: usize = 8 * (HINT_WORD + 1);
 // How many codes there are of what a core waits for.
 pub const WAIT_CODES: u64 = 5;
 
-// What a core waits for, by its code.
+// What a core waits for, by its code. (Functions here and below: a `From` of another crate's `Option` may not stand in this crate.)
 #[tactic(auto, using(crate::proofs::Records::unknown_wait), unfolding(crate::specs::Layout::wait_by_code))]
 pub fn wait_of(code: u64) -> Wait
     ensures { result ≡ wait_by_code code }
 {
     match code {
-        1 => Wait::Call(Conduit::Hvc, Recipient::Firmware),
-        2 => Wait::Call(Conduit::Hvc, Recipient::Platform),
-        3 => Wait::Call(Conduit::Smc, Recipient::Firmware),
-        4 => Wait::Call(Conduit::Smc, Recipient::Platform),
-        _ => Wait::Nothing,
+        1 => Some((Conduit::Hvc, Recipient::Firmware)),
+        2 => Some((Conduit::Hvc, Recipient::Platform)),
+        3 => Some((Conduit::Smc, Recipient::Firmware)),
+        4 => Some((Conduit::Smc, Recipient::Platform)),
+        _ => None,
     }
 }
 
@@ -68,35 +70,26 @@ pub fn wait_number(wait: Wait) -> u64
     ensures { result ≡ wait_number wait }
 {
     match wait {
-        Wait::Nothing => 0,
-        Wait::Call(conduit, recipient) => match conduit {
-            Conduit::Hvc => match recipient {
-                Recipient::Firmware => 1,
-                Recipient::Platform => 2,
-            },
-            Conduit::Smc => match recipient {
-                Recipient::Firmware => 3,
-                Recipient::Platform => 4,
-            },
-        },
+        None => 0,
+        Some((Conduit::Hvc, Recipient::Firmware)) => 1,
+        Some((Conduit::Hvc, Recipient::Platform)) => 2,
+        Some((Conduit::Smc, Recipient::Firmware)) => 3,
+        Some((Conduit::Smc, Recipient::Platform)) => 4,
     }
 }
 
-// x0 to x30, from a place on.
-fn get_x(bytes: &[u8], from: usize) -> [u64; 31]
-    requires { from ≤ 266 }
-    ensures { result ≡ words_at bytes.now from 31 }
+// The words from a place on.
+pub fn get_words<const N: usize>(bytes: &[u8], from: usize) -> [u64; N]
+    ensures { result ≡ words_at bytes.now from N }
 {
-    let mut x = [0u64; 31];
-    let mut i: usize = 0;
-    while i < 31 {
-        x[i] = lent_words::get_word(bytes, from + i);
-        i += 1;
+    let mut words = [0u64; N];
+    for i in 0..N {
+        words[i] = lent_words::get_word(bytes, from.saturating_add(i));
     }
-    x
+    words
 }
 
-// The core, and a fresh one where there is no core of that number.
+// The core, and a fresh one where there is no core of that number. (No option: it could not fail before, and the contracts name this core.)
 #[tactic(auto, using(crate::proofs::Records::no_core, crate::proofs::Records::core_of_lem))]
 pub fn get_core(cores: &[u8; CORES_SIZE], core: u64) -> Core
     ensures { result ≡ held_core cores.now core }
@@ -121,7 +114,7 @@ fn get_one(cores: &[u8; CORES_SIZE], core: usize) -> Core
         esr: lent_words::get_word(cores, at + ESR_EL1_WORD),
     };
     Core {
-        x: get_x(cores, at),
+        x: get_words(cores, at),
         elr: lent_words::get_word(cores, at + ELR_WORD),
         spsr: lent_words::get_word(cores, at + SPSR_WORD),
         el1,
@@ -129,19 +122,18 @@ fn get_one(cores: &[u8; CORES_SIZE], core: usize) -> Core
     }
 }
 
-// Stores x0 to x30, from a place on.
-fn put_x(bytes: &mut [u8], from: usize, x: [u64; 31])
-    requires { from ≤ 266 }
-    ensures { bytes.new ≡ with_words bytes.old from x }
+// Stores words from a place on. (That of `lent_words` fills a result from its start: with a place it would ask that the sum fits.)
+fn put_words(bytes: &mut [u8], from: usize, words: &[u64])
+    requires { from + length words.now < 2 ^ 64 }
+    ensures { bytes.new ≡ with_words bytes.old from words.now }
 {
-    let mut i: usize = 0;
-    while i < 31 {
-        lent_words::put_word(bytes, from + i, x[i]);
-        i += 1;
+    for (i, word) in words.iter().enumerate() {
+        lent_words::put_word(bytes, from + i, *word);
     }
 }
 
-// The EL1 registers of the core that stands from a place on.
+// The EL1 registers of the core that stands from a place on. (`put_return` of `lent_core` stores the same four: as a public function this
+// would ask where the core stands.)
 fn put_el1(cores: &mut [u8; CORES_SIZE], at: usize, el1: FaultRegisters)
     requires { at ≤ 266 }
     ensures { cores.new ≡ store_each (λ b j w. with_word b (at + j) w) cores.old elr_el1_word (fault_words el1) }
@@ -167,18 +159,15 @@ fn put_one(cores: &mut [u8; CORES_SIZE], core: usize, value: Core)
     ensures { cores.new ≡ with_core cores.old core value }
 {
     let at = CORE_WORDS * core;
-    let x = value.x;
-    let el1 = value.el1;
-    let wait = value.wait;
     let code = lent_words::kept_code(
         lent_words::get_word(cores, at + WAIT_WORD),
         WAIT_CODES,
-        wait_number(wait),
+        wait_number(value.wait),
     );
-    put_x(cores, at, x);
+    put_words(cores, at, &value.x);
     lent_words::put_word(cores, at + ELR_WORD, value.elr);
     lent_words::put_word(cores, at + SPSR_WORD, value.spsr);
-    put_el1(cores, at, el1);
+    put_el1(cores, at, value.el1);
     lent_words::put_word(cores, at + WAIT_WORD, code);
 }
 
@@ -202,7 +191,7 @@ pub fn put_counter(cores: &mut [u8; CORES_SIZE], counter: u64)
 pub fn get_saved_x(registers: &[u8; REGISTERS_SIZE]) -> [u64; 31]
     ensures { result ≡ words_at registers.now 0 31 }
 {
-    get_x(registers, 0)
+    get_words(registers, 0)
 }
 
 // ELR as the hardware saved it.
@@ -223,13 +212,7 @@ pub fn get_saved_spsr(registers: &[u8; REGISTERS_SIZE]) -> u64
 pub fn put_trap_result(res: &mut [u8; TRAP_RESULT_SIZE], trap: TrapResult)
     ensures { res.new ≡ bytes_of (result_words trap) }
 {
-    let answer = trap.answer;
-    let values = trap.values;
-    lent_words::put_word(res, 0, answer.kind());
-    let mut i: usize = 0;
-    while i < FORWARDED_VALUES {
-        lent_words::put_word(res, i + VALUES_WORD, values[i]);
-        i += 1;
-    }
+    lent_words::put_word(res, 0, core_answers::trap_kind(trap.answer));
+    put_words(res, VALUES_WORD, &trap.values);
     lent_words::put_word(res, HINT_WORD, trap.sve_hint);
 }

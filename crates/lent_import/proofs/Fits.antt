@@ -15,8 +15,9 @@ use Rattle.fdt_nodes.specs.Scan.{at_pair}
 use Rattle.fdt_nodes.specs.declared.Nodes.{Nodes}
 use Rattle.fdt.specs.declared.Walk.{Walk}
 use Rattle.fdt.specs.declared.Cursor.{Cursor}
-use Rattle.fdt.specs.declared.Memory.{Memory}
-use Rattle.fdt.specs.declared.Memory.TheVariants.{Invalid, UnsupportedCellCounts, Pairs}
+use Rattle.fdt_nodes.specs.declared.DevicetreeError.{DevicetreeError}
+use Rattle.fdt_nodes.specs.declared.DevicetreeError.TheVariants.{Invalid, UnsupportedCellCounts}
+use Rattle.std.specs.Prelude.{Some, Result, Ok, Err}
 use Rattle.fdt.specs.Passes.{cells_at, pairs_at, reg_pairs, pairs_met, pairs_from, left_in}
 use Rattle.fdt.specs.Blob.{part, inside_of, pairs_left, memory_of, memory_answer, blob_answer}
 use Rattle.memory_import.specs.Import.{pairs_in}
@@ -54,9 +55,9 @@ module _ (block strings : List ℕ) (bytes : Bytes block) where
   unfolding pairs_met
   met_fit [] n = tt
   met_fit (e ∷ es) n =
-      let m = advance block strings e.place n e.event in
+      let m = advance block strings e.place n (Some e.event) in
       let rest = met_fit es m in
-      cond_all (Every PairFits) (at_pair e.event m) (reg_pairs block m ++ pairs_met block strings m es) (pairs_met block strings m es)
+      cond_all (Every PairFits) (at_pair (Some e.event) m) (reg_pairs block m ++ pairs_met block strings m es) (pairs_met block strings m es)
       (every_append PairFits (reg_pairs block m) (pairs_met block strings m es) (reg_fits m) rest) rest
 
 -- a part of bytes is bytes
@@ -97,7 +98,7 @@ pub pairs_fit : (s : List ℕ) → Bytes s → Every PairFits (pairs_in (blob_an
 unfolding blob_answer memory_answer
 pairs_fit s h = go (memory_of s)
   where
-    go : (m : Memory) → Every PairFits (pairs_in (memory_answer s m))
-    go Invalid = tt
-    go UnsupportedCellCounts = tt
-    go (Pairs c) = left_fit s c h
+    go : (m : Result Cursor DevicetreeError) → Every PairFits (pairs_in (memory_answer s m))
+    go (Err Invalid) = tt
+    go (Err UnsupportedCellCounts) = tt
+    go (Ok c) = left_fit s c h

@@ -11,8 +11,6 @@ use Rattle.lists.proofs.Laws.{cond_all}
 use Rattle.lent_words.specs.Words.{FitsWord, Lent, unless_refused}
 use Rattle.lent_words.proofs.Words.{length-each}
 use Rattle.lent_words.proofs.Every.{every_each, every_set}
-use Rattle.stage2_range.specs.declared.Stage2Result.{Stage2Result}
-use Rattle.stage2_range.specs.declared.Stage2Result.TheVariants.{Accepted, Refused}
 use Rattle.stage2_range.specs.Ranges.{range_of, error_number, result_number}
 use Rattle.stage2_range.proofs.Ranges.{error_not_zero}
 use Rattle.stage2.specs.declared.Policy.{Policy}
@@ -23,6 +21,8 @@ use Rattle.lent_policy.specs.Layout.{policy_size, range_at, policy_at, with_allo
 use Rattle.lent_policy.specs.Calls.{allow_call}
 use Rattle.lent_policy.proofs.Records.{RangeFits, asked_range_fits, range_fits}
 use Rattle.lent_policy.proofs.States.{allowed_back, allowed_lent}
+use Rattle.std.specs.Prelude.{Err, Ok, Result, ⊤}
+use Rattle.stage2_range.specs.declared.Stage2ConfigError.{Stage2ConfigError}
 
 -- the policy that the bytes hold
 pub allow_held : (b : List ℕ) (base size attributes : ℕ) → Lent policy_size b → FitsWord base → FitsWord size → FitsWord attributes
@@ -36,11 +36,11 @@ allow_held b base size attributes lent f g h = go (allow_answer p base size) ref
     next : Policy
     next = policy.add_allowed p (range_of base size attributes)
 
-    go : (answer : Stage2Result) → allow_answer p base size ≡ answer
+    go : (answer : Result ⊤ Stage2ConfigError) → allow_answer p base size ≡ answer
         → policy_at (unless_refused (result_number (built_by answer p next).answer) b (with_allowed b (built_by answer p next).policy.allowed (built_by answer p next).policy.allowed_count))
         ≡ (built_by answer p next).policy
-    go (Refused e) q = rw (ne_eqb (error_number e) 0 (error_not_zero e))
-    go Accepted q =
+    go (Err e) q = rw (ne_eqb (error_number e) 0 (error_not_zero e))
+    go (Ok _) q =
         let can = allow_accepted p base size attributes (ap (λ a. (built_by a p next).answer) q) in
         let ranges = p.allowed in
         allowed_back b (set ranges p.allowed_count (range_of base size attributes)) (p.allowed_count + 1) lent.long

@@ -1,19 +1,17 @@
 -- The calls of pairs on lent bytes, one by one, and what an import makes of them. Assumes nothing.
 use Prim.Native.Nat.{ℕ}
 use mathlib.Core.Path.{◌≡◌, refl, sym, ◌∙◌, ap}
-use mathlib.Core.Bool.{Bool, true, false, cond}
 use mathlib.Core.List.{List, [], ◌∷◌}
 use lib.ListN.{length}
 use Rattle.fdt_tokens.specs.Devicetree.{Pair}
 use Rattle.fdt.specs.declared.Cursor.{Cursor}
-use Rattle.fdt.specs.declared.Memory.{Memory}
-use Rattle.fdt.specs.declared.Memory.TheVariants.{Invalid, Pairs}
-use Rattle.fdt.specs.declared.Memory.TheVariants as memory
+use Rattle.fdt_nodes.specs.declared.DevicetreeError.{DevicetreeError}
+use Rattle.fdt_nodes.specs.declared.DevicetreeError.TheVariants.{Invalid}
+use Rattle.fdt_nodes.specs.declared.DevicetreeError.TheVariants as devicetree
+use Rattle.std.specs.Prelude.{Result, Ok, Err}
 use Rattle.fdt.specs.Blob.{memory_of, pairs_left, blob_answer}
 use Rattle.stage2_range.specs.declared.Stage2ConfigError.{Stage2ConfigError}
 use Rattle.stage2_range.specs.declared.Stage2ConfigError.TheVariants.{InvalidDevicetree, UnsupportedCellCounts}
-use Rattle.stage2_range.specs.declared.Stage2Result.{Stage2Result}
-use Rattle.stage2_range.specs.declared.Stage2Result.TheVariants.{Accepted, Refused}
 use Rattle.stage2_range.specs.Ranges.{after, error_number, result_number}
 use Rattle.stage2_range.proofs.Ranges.{not_after, error_not_zero, zero_accepted}
 use Rattle.lists.proofs.Every.{Every}
@@ -33,6 +31,7 @@ use Rattle.lent_import.specs.Calls.{calls_number, calls_bytes, calls_leave, impo
 use Rattle.lent_import.proofs.Held.{left_lent, allow_held, allow_lent}
 use Rattle.lent_import.proofs.Fits.{PairFits, pairs_fit}
 use Rattle.lent_policy.proofs.States.{allowed_lent}
+use Rattle.std.specs.Prelude.{Err, Ok, Result, ⊤}
 
 -- from the bytes `b` on the calls left come to what all calls come to from the bytes `first`
 pub record Allowing (first : List ℕ) (all : List BuilderCall) (b : List ℕ) (calls : List BuilderCall) : Type 0 where
@@ -51,9 +50,9 @@ unfolding policy_at
 places b = length-each (range_at b) 0 32
 
 -- a number that is that of a refusal is the answer's
-number-after : (s rest : Stage2Result) → (result_number s ≡ 0 → ⊥) → result_number s ≡ result_number (after s rest)
-number-after Accepted rest h = absurd (h refl)
-number-after (Refused e) rest h = refl
+number-after : (s rest : Result ⊤ Stage2ConfigError) → (result_number s ≡ 0 → ⊥) → result_number s ≡ result_number (after s rest)
+number-after (Ok _) rest h = absurd (h refl)
+number-after (Err e) rest h = refl
 
 -- what `allow_range` leaves where it accepts
 left_allowed : (b : List ℕ) (base size attributes : ℕ) → (allow_call b base size attributes).number ≡ 0
@@ -68,8 +67,16 @@ call-number : (b : List ℕ) (base size attributes : ℕ)
 unfolding allow_call
 call-number b base size attributes = refl
 
--- The next pair: `e` says what it is, and what is left after it.
-module _ (attributes : ℕ) (l : List Pair) (found : Bool) (x : Pair) (later : List Pair) (e : l ≡ cond found (x ∷ later) [])
+-- No pair is left.
+pub none_left : (attributes : ℕ) (l : List Pair) → l ≡ [] → {first b : List ℕ} {all : List BuilderCall} → Allowing first all b (allow_calls attributes l)
+    → (0 ≡ calls_number first all) × (b ≡ calls_bytes first all)
+none_left attributes l n {first = first} {b = b} inv = (
+  ap result_number (ap (λ m. answer_of_all (policy_at b) (allow_calls attributes m)) (sym n) ∙ inv.answer),
+  inv.bytes ∙ ap (with_allowed_of first) (ap (λ m. build_all (policy_at b) (allow_calls attributes m)) (sym n) ∙ inv.policy),
+)
+
+-- The next pair `x`, and those after it.
+module _ (attributes : ℕ) (l : List Pair) (x : Pair) (later : List Pair) (e : l ≡ x ∷ later)
     {first b : List ℕ} {all : List BuilderCall} (inv : Allowing first all b (allow_calls attributes l)) where
   abbrev left : Left
   left = allow_call b x.base x.size attributes
@@ -77,35 +84,24 @@ module _ (attributes : ℕ) (l : List Pair) (found : Bool) (x : Pair) (later : L
   abbrev next : Built
   next = allow_range (policy_at b) x.base x.size attributes
 
-  pub none_left : found ≡ false → (0 ≡ calls_number first all) × (b ≡ calls_bytes first all)
-  none_left h =
-      let n : l ≡ [] = e ∙ ap (λ t. cond t (x ∷ later) []) h in (
-        ap result_number (ap (λ m. answer_of_all (policy_at b) (allow_calls attributes m)) (sym n) ∙ inv.answer),
-        inv.bytes ∙ ap (with_allowed_of first) (ap (λ m. build_all (policy_at b) (allow_calls attributes m)) (sym n) ∙ inv.policy),
-      )
-
-  some : found ≡ true → l ≡ x ∷ later
-  some h = e ∙ ap (λ t. cond t (x ∷ later) []) h
-
-  pub one_refused : found ≡ true → (left.number ≡ 0 → ⊥) → left.number ≡ calls_number first all
-  one_refused h n =
+  pub one_refused : (left.number ≡ 0 → ⊥) → left.number ≡ calls_number first all
+  one_refused n =
       let c = call-number b x.base x.size attributes in
       c ∙ (number-after next.answer (answer_of_all next.policy (allow_calls attributes later)) (λ z. n (c ∙ z))
-      ∙ ap result_number (ap (λ m. answer_of_all (policy_at b) (allow_calls attributes m)) (sym (some h)) ∙ inv.answer))
+      ∙ ap result_number (ap (λ m. answer_of_all (policy_at b) (allow_calls attributes m)) (sym e) ∙ inv.answer))
 
-  pub one_allowed : found ≡ true → FitsWord x.base → FitsWord x.size → FitsWord attributes → left.number ≡ 0
+  pub one_allowed : FitsWord x.base → FitsWord x.size → FitsWord attributes → left.number ≡ 0
       → Allowing first all left.state (allow_calls attributes later)
-  one_allowed h fb fs fa n =
+  one_allowed fb fs fa n =
       let held = allow_held b x.base x.size attributes inv.lent fb fs fa in
       let accepted = zero_accepted next.answer (sym (call-number b x.base x.size attributes) ∙ n) in
-      let m = some h in
       record {
         lent = allow_lent b x.base x.size attributes inv.lent;
         answer = ap (λ p. answer_of_all p (allow_calls attributes later)) held
             ∙ (ap (λ s. after s (answer_of_all next.policy (allow_calls attributes later))) (sym accepted)
-            ∙ (ap (λ k. answer_of_all (policy_at b) (allow_calls attributes k)) (sym m) ∙ inv.answer));
+            ∙ (ap (λ k. answer_of_all (policy_at b) (allow_calls attributes k)) (sym e) ∙ inv.answer));
         policy = ap (λ p. build_all p (allow_calls attributes later)) held
-            ∙ (ap (λ k. build_all (policy_at b) (allow_calls attributes k)) (sym m) ∙ inv.policy);
+            ∙ (ap (λ k. build_all (policy_at b) (allow_calls attributes k)) (sym e) ∙ inv.policy);
         bytes = left_allowed b x.base x.size attributes n
             ∙ (ap (λ p. with_allowed_of b p) (sym held)
             ∙ (ap (λ c. with_allowed_of c (policy_at left.state)) inv.bytes
@@ -121,7 +117,7 @@ pub all_allowed : (b c : List ℕ) (calls : List BuilderCall) (n : ℕ) → n �
 all_allowed b c calls n e z k = k ∙ sym (when_accepted (calls_number b calls) b (calls_bytes b calls) (sym e ∙ z))
 
 -- An import, by what was read.
-module _ (b blob : List ℕ) (attributes : ℕ) {m : Memory} (told : m ≡ memory_of blob) where
+module _ (b blob : List ℕ) (attributes : ℕ) {m : Result Cursor DevicetreeError} (told : m ≡ memory_of blob) where
   -- what an import leaves, by what it answers
   abbrev leaves : Built → Left
   leaves built =
@@ -131,41 +127,41 @@ module _ (b blob : List ℕ) (attributes : ℕ) {m : Memory} (told : m ≡ memor
   unfolding import_call
   by_built built e = ap leaves e
 
-  refused-leaves : (e : Stage2ConfigError) → leaves (record { answer = Refused e; policy = policy_at b }) ≡ record { number = error_number e; state = b; result = [] }
+  refused-leaves : (e : Stage2ConfigError) → leaves (record { answer = Err e; policy = policy_at b }) ≡ record { number = error_number e; state = b; result = [] }
   refused-leaves e = ap (λ s. record { number = error_number e; state = s; result = [] }) (when_refused (error_number e) b (with_allowed_of b (policy_at b)) (error_not_zero e))
 
-  pub invalid_leaves : m ≡ Invalid → record { number = 21; state = b; result = [] } ≡ import_call b blob attributes
+  pub invalid_leaves : m ≡ Err Invalid → record { number = 21; state = b; result = [] } ≡ import_call b blob attributes
   invalid_leaves e = sym (refused-leaves InvalidDevicetree) ∙ by_built _ (import_invalid blob attributes told (policy_at b) e)
 
-  pub unsupported_leaves : m ≡ memory.UnsupportedCellCounts → record { number = 22; state = b; result = [] } ≡ import_call b blob attributes
+  pub unsupported_leaves : m ≡ Err devicetree.UnsupportedCellCounts → record { number = 22; state = b; result = [] } ≡ import_call b blob attributes
   unsupported_leaves e = sym (refused-leaves UnsupportedCellCounts) ∙ by_built _ (import_unsupported blob attributes told (policy_at b) e)
 
-  pub pairs_leave : (c : Cursor) → m ≡ Pairs c → calls_leave b (allow_calls attributes (pairs_left blob c)) ≡ import_call b blob attributes
+  pub pairs_leave : (c : Cursor) → m ≡ Ok c → calls_leave b (allow_calls attributes (pairs_left blob c)) ≡ import_call b blob attributes
   pairs_leave c e = go (answer_of_all (policy_at b) calls) ∙ by_built _ (import_pairs blob attributes told (policy_at b) c e)
     where
       calls : List BuilderCall
       calls = allow_calls attributes (pairs_left blob c)
 
-      all : Stage2Result → Left
+      all : Result ⊤ Stage2ConfigError → Left
       all s = record { number = result_number s; state = unless_refused (result_number s) b (calls_bytes b calls); result = [] }
 
-      go : (s : Stage2Result) → all s ≡ leaves (built_by s (policy_at b) (build_all (policy_at b) calls))
-      go Accepted = refl
-      go (Refused x) =
+      go : (s : Result ⊤ Stage2ConfigError) → all s ≡ leaves (built_by s (policy_at b) (build_all (policy_at b) calls))
+      go (Ok _) = refl
+      go (Err x) =
           let none = error_not_zero x in
           ap (λ s. record { number = error_number x; state = s; result = [] })
           (when_refused (error_number x) b (calls_bytes b calls) none ∙ sym (when_refused (error_number x) b (with_allowed_of b (policy_at b)) none))
 
 -- the policy that the bytes hold after all of some calls is the one that the calls hand back
 all_held : {first : List ℕ} {all : List BuilderCall} (attributes : ℕ) (ps : List Pair) (b : List ℕ) → FitsWord attributes → Every PairFits ps
-    → Allowing first all b (allow_calls attributes ps) → answer_of_all (policy_at b) (allow_calls attributes ps) ≡ Accepted
+    → Allowing first all b (allow_calls attributes ps) → answer_of_all (policy_at b) (allow_calls attributes ps) ≡ Ok tt
     → policy_at (calls_bytes first all) ≡ build_all (policy_at first) all
 all_held {first = first} attributes [] b fa fits inv h =
     ap (λ p. policy_at (with_allowed_of first p)) (sym inv.policy) ∙ (ap policy_at (sym inv.bytes) ∙ inv.policy)
 all_held attributes (x ∷ xs) b fa fits inv h =
     let built = allow_range (policy_at b) x.base x.size attributes in
     let a = not_after built.answer (answer_of_all built.policy (allow_calls attributes xs)) h in
-    let next = one_allowed attributes (x ∷ xs) true x xs refl inv refl fits.0.0 fits.0.1 fa
+    let next = one_allowed attributes (x ∷ xs) x xs refl inv fits.0.0 fits.0.1 fa
     (call-number b x.base x.size attributes ∙ ap result_number a.0) in
     let held = allow_held b x.base x.size attributes inv.lent fits.0.0 fits.0.1 fa in
     all_held attributes xs (allow_call b x.base x.size attributes).state fa fits.1 next
@@ -183,11 +179,11 @@ import_held b blob attributes lent bytes f = go (import_answer p blob attributes
     calls : List BuilderCall
     calls = import_calls blob attributes
 
-    go : (answer : Stage2Result) → import_answer p blob attributes ≡ answer →
+    go : (answer : Result ⊤ Stage2ConfigError) → import_answer p blob attributes ≡ answer →
         let built = built_by answer p (build_all p calls) in
         policy_at (unless_refused (result_number built.answer) b (with_allowed_of b built.policy)) ≡ built.policy
-    go (Refused e) q = ap policy_at (when_refused (error_number e) b (with_allowed_of b p) (error_not_zero e))
-    go Accepted q =
+    go (Err e) q = ap policy_at (when_refused (error_number e) b (with_allowed_of b p) (error_not_zero e))
+    go (Ok _) q =
         all_held attributes (pairs_in (blob_answer blob)) b f (pairs_fit blob bytes) (allow_start b calls lent)
         (not_after (reading blob) (answer_of_all p calls) q).1
 

@@ -1,4 +1,6 @@
 // Memory read from a board's devicetree into a policy in the bytes that a host lends.
+// (A call answers the number of its refusal, and no `Result`: `ritm` hands the number to C. Which refusal an error of the reader's is stands in a
+// match here and in `memory_import`: a `From` of two other crates' types may not stand here.)
 
 #![tactic(auto)]
 
@@ -8,8 +10,10 @@ ghost use Rattle.lent_words.specs.Words.{Leaves};
 ghost use Rattle.memory_import.specs.Import.{allow_calls};
 ghost use Rattle.lent_import.specs.Calls.{calls_number, calls_bytes, calls_leave, import_call};
 
-use fdt::{Cursor, Memory};
+use fdt::Cursor;
+use fdt_nodes::DevicetreeError;
 use lent_policy::POLICY_SIZE;
+use lists::refusal::Refusal;
 use stage2_range::Stage2ConfigError;
 
 // The calls of all pairs from a place on, one by one, up to the first that is refused.
@@ -20,17 +24,14 @@ fn allow_pairs(policy: &mut [u8; POLICY_SIZE], blob: &[u8], first: Cursor, attri
 {
     lent_words::are_bytes(policy);
     let mut cursor = first;
-    loop {
-        let pair = fdt::next_pair(blob, cursor);
-        if !pair.found {
-            return 0;
-        }
+    while let Some(pair) = fdt::next_pair(blob, cursor) {
         let number = lent_policy::allow_range(policy, pair.base, pair.size, attributes);
         if number != 0 {
             return number;
         }
-        cursor = pair.cursor;
+        cursor = pair.after;
     }
+    0
 }
 
 // The calls of all pairs, or none: they are made on a copy, so that a refusal has changed no byte, and none of a free place.
@@ -52,8 +53,9 @@ pub fn import_memory(policy: &mut [u8; POLICY_SIZE], blob: &[u8], attributes: u6
     ensures { Leaves (import_call policy.old blob.now attributes) result policy.new [] }
 {
     match fdt::read_memory(blob) {
-        Memory::Invalid => Stage2ConfigError::InvalidDevicetree.number(),
-        Memory::UnsupportedCellCounts => Stage2ConfigError::UnsupportedCellCounts.number(),
-        Memory::Pairs(cursor) => allow_all(policy, blob, cursor, attributes),
+        Err(DevicetreeError::Invalid) => Stage2ConfigError::InvalidDevicetree.number(),
+        Err(DevicetreeError::UnsupportedCellCounts) =>
+            Stage2ConfigError::UnsupportedCellCounts.number(),
+        Ok(cursor) => allow_all(policy, blob, cursor, attributes),
     }
 }

@@ -15,21 +15,20 @@ use Rattle.lent_words.specs.Words.{word_at, each, store_each, with_words, read_c
 use Rattle.lent_words.proofs.Words.{length-each, get_d_each, each_same}
 use Rattle.lent_words.proofs.RoundTrip.{lent_words, code_kept}
 use Rattle.lent_words.proofs.InPlace.{words_rewritten, store_kept, one_stored}
-use Rattle.simple_map.specs.declared.Place.{Place}
+use Rattle.simple_map.specs.declared.Item.{Item}
 use Rattle.simple_map.specs.declared.SuspendCoreData.{SuspendCoreData}
-use Rattle.simple_map.specs.declared.Lookup.TheVariants.{Nothing, Value}
-use Rattle.simple_map.specs.declared.Insertion.TheVariants.{Accepted, CapacityExceeded}
-use Rattle.simple_map.specs.Map.{free_place, taken, is_free, holds_key, value_of, without, get_item, insert_item}
+use Rattle.simple_map.specs.Map.{free_place, taken, is_free, holds_key, value_of, without, get_item, insert_item, capacity_exceeded}
 use Rattle.simple_map.proofs.Laws.{get_at, without_at, insert_at_lem}
 use Rattle.lent_map.specs.Layout.{place_at, place_words, with_place, map_at, with_places, place_length, key_word, entry_point_word, context_id_word}
 use Rattle.lent_map.proofs.Records.{place_beside}
+use Rattle.std.specs.Prelude.{Err, None, Ok, Some, Option}
 
 -- the value that stands in the words of a place
 abbrev pub value_at : List ℕ → ℕ → SuspendCoreData
 value_at b k = record { entry_point = word_at b (place_length * k + entry_point_word); context_id = word_at b (place_length * k + context_id_word) }
 
 -- the place that its words make, where it is taken and where it is free
-abbrev standing : List ℕ → ℕ → Bool → Place
+abbrev standing : List ℕ → ℕ → Bool → Option Item
 standing b k t = cond t (taken (word_at b (place_length * k + key_word)) (value_at b k)) free_place
 
 -- there are eight places
@@ -38,7 +37,7 @@ unfolding map_at
 eight b = length-each (place_at b) 0 8
 
 -- one of the eight places
-pub place_of : (b : List ℕ) (k : ℕ) (d : Place) → k < 8 → get_or (map_at b).items k d ≡ place_at b k
+pub place_of : (b : List ℕ) (k : ℕ) (d : Option Item) → k < 8 → get_or (map_at b).items k d ≡ place_at b k
 unfolding map_at
 place_of b k d h = get_d_each (place_at b) 0 8 k d h ∙ ap (place_at b) (zero-add k)
 
@@ -59,27 +58,27 @@ place_same b k h = go (eqb (word_at b (place_length * k)) 1) refl
     kept code e = ap (kept_code 2 (word_at b (place_length * k))) (sym e) ∙ code_kept 2 (word_at b (place_length * k)) ∙ ap (word_at b) (sym (add-zero (place_length * k)))
 
     go : (t : Bool) → eqb (word_at b (place_length * k)) 1 ≡ t
-        → with_words b (place_length * k) (place_words (word_at b (place_length * k)) (standing b k t).item) ≡ b
+        → with_words b (place_length * k) (place_words (word_at b (place_length * k)) (standing b k t)) ≡ b
     go true e = rw (kept 1 (ap (read_code 2) (eqb-true (word_at b (place_length * k)) 1 e))) (words_rewritten b (place_length * k) place_length h)
     go false e = rw (kept 0 (not_taken (word_at b (place_length * k)) (eqb-false (word_at b (place_length * k)) 1 e))) (words_rewritten b (place_length * k) 1 h)
 
 -- bytes are bytes after a place is stored
-place_stays : (b : List ℕ) (k : ℕ) (p : Place) → Bytes b → Bytes (with_place b k p)
+place_stays : (b : List ℕ) (k : ℕ) (p : Option Item) → Bytes b → Bytes (with_place b k p)
 unfolding with_place
-place_stays b k p h = (lent_words b (place_length * k) (place_words (word_at b (place_length * k)) p.item) (record { long = refl; bytes = h })).bytes
+place_stays b k p h = (lent_words b (place_length * k) (place_words (word_at b (place_length * k)) p) (record { long = refl; bytes = h })).bytes
 
 -- places of which one differs are stored by one store
-one_from : (b : List ℕ) (k n i : ℕ) (p : Place) → i < n → Bytes b → store_each with_place b k (set (each (place_at b) k n) i p) ≡ with_place b (k + i) p
+one_from : (b : List ℕ) (k n i : ℕ) (p : Option Item) → i < n → Bytes b → store_each with_place b k (set (each (place_at b) k n) i p) ≡ with_place b (k + i) p
 one_from = one_stored place_at with_place Bytes place_stays place_same place_beside
 
 -- places of which two differ are stored by two stores, the lower first
-two_from : (b : List ℕ) (k n i j : ℕ) (p q : Place) → j < i → i < n → Bytes b
+two_from : (b : List ℕ) (k n i j : ℕ) (p q : Option Item) → j < i → i < n → Bytes b
     → store_each with_place b k (set (set (each (place_at b) k n) i p) j q) ≡ with_place (with_place b (k + j) q) (k + i) p
 two_from b k zero i j p q l u h = absurd (omega arith)
 two_from b k (suc n) zero j p q l u h = absurd (omega arith)
 two_from b k (suc n) (suc i) zero p q l u h =
     let e : suc k + i ≡ k + suc i = omega arith in
-    ap (λ (ps : List Place). store_each with_place (with_place b k q) (suc k) (set ps i p)) (each_same (place_at b) (place_at (with_place b k q)) (suc k) n (λ m a z. sym (place_beside b k q m (omega arith))))
+    ap (λ (ps : List (Option Item)). store_each with_place (with_place b k q) (suc k) (set ps i p)) (each_same (place_at b) (place_at (with_place b k q)) (suc k) n (λ m a z. sym (place_beside b k q m (omega arith))))
     ∙ one_from (with_place b k q) (suc k) n i p (omega arith) (place_stays b k q h)
     ∙ rw (e, add-zero k)
 two_from b k (suc n) (suc i) (suc j) p q l u h =
@@ -95,7 +94,7 @@ unfolding map_at with_places
 places_same b h = store_kept place_at with_place Bytes place_stays place_same place_beside b 0 8 h
 
 -- to store the map with another place is to store the place
-pub place_stored : (b : List ℕ) (k : ℕ) (p : Place) → Bytes b → k < 8 → with_places b (set (map_at b).items k p) ≡ with_place b k p
+pub place_stored : (b : List ℕ) (k : ℕ) (p : Option Item) → Bytes b → k < 8 → with_places b (set (map_at b).items k p) ≡ with_place b k p
 unfolding map_at with_places
 place_stored b k p h l = one_from b 0 8 k p l h ∙ ap (λ (j : ℕ). with_place b j p) (zero-add k)
 
@@ -111,11 +110,11 @@ index_set fits y e (x ∷ xs) (suc i) = go (fits x) (index_set fits y e xs i)
     go false h = omega arith
 
 -- a search answers one of the eight places, or 8
-pub index_within : (b : List ℕ) (fits : Place → Bool) (k : ℕ) → k ≡ first_index fits (map_at b).items → k ≤ 8
+pub index_within : (b : List ℕ) (fits : Option Item → Bool) (k : ℕ) → k ≡ first_index fits (map_at b).items → k ≤ 8
 index_within b fits k e = omega (arith, index_le fits (map_at b).items, eight b)
 
 -- where a search finds a place, it fits
-fits_there : (b : List ℕ) (fits : Place → Bool) (k : ℕ) → k ≡ first_index fits (map_at b).items → k < 8 → fits (place_at b k) ≡ true
+fits_there : (b : List ℕ) (fits : Option Item → Bool) (k : ℕ) → k ≡ first_index fits (map_at b).items → k < 8 → fits (place_at b k) ≡ true
 fits_there b fits k e l =
     ap fits (sym (place_of b k free_place l) ∙ ap (λ (j : ℕ). get_or (map_at b).items j free_place) e)
     ∙ index_fits fits (map_at b).items free_place (omega (arith, eight b))
@@ -123,15 +122,15 @@ fits_there b fits k e l =
 -- The place `held` is that of the first entry with the key.
 module _ (b : List ℕ) (key held : ℕ) (at_key : held ≡ first_index (holds_key key) (map_at b).items) where
   -- a look-up reads there
-  pub entry_at : get_item (map_at b) key ≡ cond (ltb held 8) (Value (value_at b held)) Nothing
+  pub entry_at : get_item (map_at b) key ≡ cond (ltb held 8) (Some (value_at b held)) None
   unfolding place_at is_free holds_key value_of
   entry_at = get_at (map_at b) key ∙ rw (eight b, ← at_key) (go (ltb held 8) refl)
     where
-      value : (t : Bool) → holds_key key (standing b held t) ≡ true → value_of (standing b held t) ≡ Value (value_at b held)
+      value : (t : Bool) → holds_key key (standing b held t) ≡ true → value_of (standing b held t) ≡ Some (value_at b held)
       value true e = refl
       value false e = absurd (true≢false (sym e))
 
-      go : (t : Bool) → ltb held 8 ≡ t → cond t (value_of (get_or (map_at b).items held free_place)) Nothing ≡ cond t (Value (value_at b held)) Nothing
+      go : (t : Bool) → ltb held 8 ≡ t → cond t (value_of (get_or (map_at b).items held free_place)) None ≡ cond t (Some (value_at b held)) None
       go true e =
           ap value_of (place_of b held free_place (ltb-true held 8 e)) ∙ value (eqb (word_at b (place_length * held)) 1) (fits_there b (holds_key key) held at_key (ltb-true held 8 e))
       go false e = refl
@@ -149,26 +148,26 @@ module _ (b : List ℕ) (key held : ℕ) (at_key : held ≡ first_index (holds_k
     -- an insert, by the lower of the two places
     inserted : insert_item (map_at b) key value
         ≡ cond (ltb (min held free) 8)
-        (record { answer = Accepted; map = record { items = set (set (map_at b).items held free_place) (min held free) (taken key value) } })
-        (record { answer = CapacityExceeded; map = map_at b })
+        (record { answer = Ok tt; map = record { items = set (set (map_at b).items held free_place) (min held free) (taken key value) } })
+        (record { answer = Err capacity_exceeded; map = map_at b })
     unfolding is_free holds_key
     inserted =
         insert_at_lem (map_at b) key value
         ∙ rw (eight b, without_at key (map_at b).items, index_set is_free free_place refl (map_at b).items (first_index (holds_key key) (map_at b).items), ← at_key, ← at-free)
 
     -- the entry with the key stands before a free place: the new one takes its place
-    pub inserted_there : held < free → insert_item (map_at b) key value ≡ record { answer = Accepted; map = record { items = set (map_at b).items held (taken key value) } }
+    pub inserted_there : held < free → insert_item (map_at b) key value ≡ record { answer = Ok tt; map = record { items = set (map_at b).items held (taken key value) } }
     inserted_there l =
         let e : min held free ≡ held = omega arith in
         inserted ∙ rw (e, lt-ltb held 8 (omega (arith, index_within b is_free free at-free)), set-set (map_at b).items held free_place (taken key value))
 
     -- no place is free, and none holds the key
-    pub not_inserted : free ≤ held → 8 ≤ free → insert_item (map_at b) key value ≡ record { answer = CapacityExceeded; map = map_at b }
+    pub not_inserted : free ≤ held → 8 ≤ free → insert_item (map_at b) key value ≡ record { answer = Err capacity_exceeded; map = map_at b }
     not_inserted l m = inserted ∙ rw (le-ltb (min held free) 8 (omega arith))
 
     -- a free place stands before the entry with the key, if there is one
     pub inserted_before : free ≤ held → free < 8
-        → insert_item (map_at b) key value ≡ record { answer = Accepted; map = record { items = set (set (map_at b).items held free_place) free (taken key value) } }
+        → insert_item (map_at b) key value ≡ record { answer = Ok tt; map = record { items = set (set (map_at b).items held free_place) free (taken key value) } }
     inserted_before l m =
         let e : min held free ≡ free = omega arith in
         inserted ∙ rw (e, lt-ltb free 8 m)
@@ -201,5 +200,5 @@ module _ (b : List ℕ) (key held : ℕ) (at_key : held ≡ first_index (holds_k
 
 -- where no place is free, and none holds the key, an insert is refused
 pub none_inserted : (b : List ℕ) (key : ℕ) (value : SuspendCoreData) → first_index is_free (map_at b).items ≤ first_index (holds_key key) (map_at b).items
-    → 8 ≤ first_index is_free (map_at b).items → CapacityExceeded ≡ (insert_item (map_at b) key value).answer
+    → 8 ≤ first_index is_free (map_at b).items → (Err capacity_exceeded) ≡ (insert_item (map_at b) key value).answer
 none_inserted b key value l m = rw (not_inserted b key _ refl value _ refl l m)

@@ -1,23 +1,26 @@
 // Where the bytes that a host lends hold the policy: little-endian 64-bit words at fixed places. Any bytes are a policy.
+// (A call answers the number of its refusal, and no `Result`: `ritm` hands the number to C. `place < 16` and `at < region_count_at` stand in each
+// private contract: of a type for a place each clause would say `place.number`, and each caller would build one for one call.)
 
 #![tactic(auto)]
 
-ghost use Rattle.std.specs.Prelude.{◌≡◌, [], ◌+◌, ◌≤◌, ◌<◌, min, leb, set};
+ghost use Rattle.std.specs.Prelude.{◌≡◌, position, [], ◌+◌, ◌*◌, ◌≤◌, ◌<◌, min, leb, set};
 ghost use Rattle.lists.specs.Lists.{first_index, insert_at};
 ghost use Rattle.lent_words.specs.Words.{word_at, each, store_each, Leaves};
-ghost use Rattle.stage2_range.specs.Ranges.{answer_of, has_byte, shares_byte, range_bytes, overlaps_allowed};
+ghost use Rattle.stage2_range.specs.Ranges.{answer_of, has_byte, shares_byte, range_bytes, overlaps};
 ghost use Rattle.stage2_range.specs.Handlers.{handler_of};
-ghost use Rattle.stage2_range.specs.Registry.{region_bytes, has_address, overlaps_regions, find_region, insert_region};
+ghost use Rattle.stage2_range.specs.Registry.{region_bytes, has_address, find_region, insert_region};
 ghost use Rattle.stage2.specs.Policy.{allowed_held, regions_held, allow_cases, allow_answer, handle_cases, handle_answer};
 ghost use Rattle.lent_policy.specs.Layout.{allowed_count_at, region_count_at, bytes_at, range_at, region_at, kept_handler, policy_at, with_range, with_region, with_copy, with_allowed, with_regions};
 ghost use Rattle.lent_policy.specs.Calls.{allow_call, handle_call, find_call};
 
 use lent_words::THREE_WORDS;
+use lists::refusal::Refusal;
 use memory_access::Ipa;
 use stage2_range::{
     FAULT_HANDLER, MAX_ALLOWED_RANGES, MAX_MEMORY_ACCESS_HANDLERS, MemoryAccessHandler,
-    MemoryAccessHandlerMatch, MemoryAccessRegion, MemoryHandler, PageRange, RegionFound,
-    Stage2ConfigError, Stage2Range, Stage2Result,
+    MemoryAccessHandlerMatch, MemoryAccessRegion, MemoryHandler, PageRange, PolicyRecord,
+    Stage2ConfigError, Stage2Range,
 };
 
 // The words of the policy's buffer: the allowed ranges, from the first on, and how many there are; the regions, and how many there are.
@@ -117,6 +120,10 @@ fn put_region_words(
     requires { place < 16 }
     ensures { policy.new ≡ with_region policy.old place (record { base_ipa = base_ipa; size = size; handler = record { read = handler_of read; write = handler_of write }; end_ipa = end_ipa }) }
 {
+    // no place is as large: by this test the compiler sees that the words lie within, here and in `copy_region_to`
+    if MAX_MEMORY_ACCESS_HANDLERS <= place as u64 {
+        return;
+    }
     let at = REGIONS + REGION_WORDS * place;
     let read_code = kept_handler(policy, at + READ_WORD, read);
     let write_code = kept_handler(policy, at + WRITE_WORD, write);
@@ -146,23 +153,8 @@ fn put_region(policy: &mut [u8; POLICY_SIZE], place: usize, region: MemoryAccess
     );
 }
 
-// Stores a region at the next place too. (By its words: to make a handler of each code and a number of that again took a quarter more
-// instructions.)
-#[tactic(auto, unfolding(crate::specs::Layout::region_at))]
-fn copy_region(policy: &mut [u8; POLICY_SIZE], place: usize)
-    requires { place < 15 }
-    ensures { policy.new ≡ with_region policy.old (place + 1) (region_at policy.old place) }
-{
-    let from = REGIONS + REGION_WORDS * place;
-    let base_ipa = lent_words::get_word(policy, from);
-    let size = lent_words::get_word(policy, from + SIZE_WORD);
-    let end_ipa = lent_words::get_word(policy, from + END_WORD);
-    let read = lent_words::get_word(policy, from + READ_WORD);
-    let write = lent_words::get_word(policy, from + WRITE_WORD);
-    put_region_words(policy, place + 1, base_ipa, size, end_ipa, read, write);
-}
-
-// Stores a region at any other place too; where one of the places is none, nothing. (By its words, as `copy_region`.)
+// Stores a region at another place too; where one of the places is none, nothing. (By its words: to make a handler of each code and a
+// number of that again took a quarter more instructions.)
 #[tactic(auto, using(crate::proofs::InPlace::copied, crate::proofs::InPlace::no_from, crate::proofs::InPlace::no_to), unfolding(crate::specs::Layout::region_at))]
 pub fn copy_region_to(policy: &mut [u8; POLICY_SIZE], from: u64, to: u64)
     ensures { policy.new ≡ with_copy policy.old from to }
@@ -226,19 +218,18 @@ fn shares_byte(policy: &[u8; POLICY_SIZE], at: usize, bytes: PageRange) -> bool
     stage2_range::page_ranges_overlap(get_bytes(policy, at), bytes)
 }
 
-// The place of the first region held that has the address, and how many are held where none does.
-fn find_place(policy: &[u8; POLICY_SIZE], ipa: u64) -> u64
-    ensures { result ≡ first_index (has_address ipa) (regions_held (policy_at policy.now)) }
+// The place of the first region held that has the address. (`place_by_base` has the same loop with another test: of a closure over lent
+// bytes the clause would be longer than the loop.)
+fn find_place(policy: &[u8; POLICY_SIZE], ipa: u64) -> Option<u64>
+    ensures { result ≡ position (has_address ipa) (regions_held (policy_at policy.now)) }
 {
     let held = regions_held(policy);
-    let mut place: u64 = 0;
-    while place < held {
+    for place in 0..held {
         if has_byte(policy, REGIONS + REGION_WORDS * (place as usize), ipa) {
-            return place;
+            return Some(place);
         }
-        place += 1;
     }
-    place
+    None
 }
 
 // The base of a region.
@@ -250,83 +241,70 @@ fn get_region_base(policy: &[u8; POLICY_SIZE], place: u64) -> u64
 }
 
 // The first region held that has the address, and the offset in it. No other region is read whole.
-#[tactic(auto, using(crate::proofs::Search::none_there))]
-pub fn find_region(policy: &[u8; POLICY_SIZE], ipa: Ipa) -> RegionFound
+pub fn find_region(policy: &[u8; POLICY_SIZE], ipa: Ipa) -> Option<MemoryAccessHandlerMatch>
     ensures { result ≡ find_region (regions_held (policy_at policy.now)) ipa }
 {
     let address = ipa.0;
-    let place = find_place(policy, address);
-    if regions_held(policy) <= place {
-        return RegionFound::Nothing;
+    let place = find_place(policy, address)?;
+    // no place is as large: by this test the compiler sees that the words lie within, and a trap takes fewer instructions
+    if MAX_MEMORY_ACCESS_HANDLERS <= place {
+        return None;
     }
     let region = get_region(policy, place as usize);
-    RegionFound::Match(MemoryAccessHandlerMatch {
+    Some(MemoryAccessHandlerMatch {
         region,
         offset: address - region.base_ipa,
     })
 }
 
 // The first region held that has the address: whether there is one, its place and the offset in it.
-#[tactic(auto, using(crate::proofs::Search::one_there))]
 pub fn find(policy: &[u8; POLICY_SIZE], ipa: u64, res: &mut [u8; THREE_WORDS]) -> u64
     ensures { Leaves (find_call policy.now ipa) result policy.now res.new }
 {
-    let place = find_place(policy, ipa);
-    if place < regions_held(policy) {
-        let offset = ipa - get_region_base(policy, place);
-        lent_words::put_three(res, 1, place, offset);
-        return 0;
+    match find_place(policy, ipa) {
+        Some(place) => lent_words::put_three(res, 1, place, ipa - get_region_base(policy, place)),
+        None => lent_words::put_three(res, 0, 0, 0),
     }
-    lent_words::put_three(res, 0, 0, 0);
     0
 }
 
-// Some allowed range that is held shares a byte with the given bytes.
-fn overlaps_allowed(policy: &[u8; POLICY_SIZE], bytes: PageRange) -> bool
-    ensures { result ≡ overlaps_allowed (allowed_held (policy_at policy.now)) bytes }
+// Some record that is held shares a byte with the given bytes: of the records of `WORDS` words each, from word `FIRST` on, at most `LIMIT`,
+// with their count after them. (Constants, and the count read here: docs/DECISIONS.md, "One loop over both lists".)
+fn overlaps<const FIRST: usize, const WORDS: usize, const LIMIT: u64>(
+    policy: &[u8; POLICY_SIZE],
+    bytes: PageRange,
+) -> bool
+    requires { (0 < WORDS) × (FIRST + WORDS * LIMIT ≤ region_count_at) }
+    ensures { result ≡ overlaps (bytes_at policy.now) (each (λ k. FIRST + WORDS * k) 0 (min (word_at policy.now (FIRST + WORDS * LIMIT)) LIMIT)) bytes }
 {
-    let held = allowed_held(policy);
-    let mut place: u64 = 0;
-    while place < held {
-        if shares_byte(policy, RANGE_WORDS * (place as usize), bytes) {
+    let held = lists::held_count(
+        lent_words::get_word(policy, FIRST + WORDS * (LIMIT as usize)),
+        LIMIT,
+    );
+    for place in 0..held {
+        if shares_byte(policy, FIRST + WORDS * (place as usize), bytes) {
             return true;
         }
-        place += 1;
-    }
-    false
-}
-
-// Some region that is held shares a byte with the given bytes.
-fn overlaps_regions(policy: &[u8; POLICY_SIZE], bytes: PageRange) -> bool
-    ensures { result ≡ overlaps_regions (regions_held (policy_at policy.now)) bytes }
-{
-    let held = regions_held(policy);
-    let mut place: u64 = 0;
-    while place < held {
-        if shares_byte(policy, REGIONS + REGION_WORDS * (place as usize), bytes) {
-            return true;
-        }
-        place += 1;
     }
     false
 }
 
 // Refusals 5 to 7, in order.
 #[tactic(auto, using(crate::proofs::Cases::allow_full, crate::proofs::Cases::allow_overlaps, crate::proofs::Cases::allow_handled, crate::proofs::Cases::allow_fits))]
-fn allow_answer_for(policy: &[u8; POLICY_SIZE], range: Stage2Range) -> Stage2Result
+fn allow_answer_for(policy: &[u8; POLICY_SIZE], range: Stage2Range) -> Result<(), Stage2ConfigError>
     ensures { result ≡ answer_of (allow_cases (policy_at policy.now) (range_bytes range)) }
 {
     let range_bytes = range.bytes();
     if MAX_ALLOWED_RANGES <= get_allowed_count(policy) {
-        return Stage2Result::Refused(Stage2ConfigError::TooManyAllowedRanges);
+        return Err(Stage2ConfigError::TooManyAllowedRanges);
     }
-    if overlaps_allowed(policy, range_bytes) {
-        return Stage2Result::Refused(Stage2ConfigError::AllowedRangeOverlap);
+    if overlaps::<0, RANGE_WORDS, MAX_ALLOWED_RANGES>(policy, range_bytes) {
+        return Err(Stage2ConfigError::AllowedRangeOverlap);
     }
-    if overlaps_regions(policy, range_bytes) {
-        return Stage2Result::Refused(Stage2ConfigError::AllowedRangeOverlapsMemoryAccessHandler);
+    if overlaps::<REGIONS, REGION_WORDS, MAX_MEMORY_ACCESS_HANDLERS>(policy, range_bytes) {
+        return Err(Stage2ConfigError::AllowedRangeOverlapsMemoryAccessHandler);
     }
-    Stage2Result::Accepted
+    Ok(())
 }
 
 // Stores a range after those that are held, and counts it.
@@ -341,20 +319,17 @@ fn add_range(policy: &mut [u8; POLICY_SIZE], range: Stage2Range)
 }
 
 // Refusals 1 to 7, in order.
+#[tactic(auto, using(stage2::proofs::Laws::allow_by_arguments))]
 fn allow_answer(
     policy: &[u8; POLICY_SIZE],
     base_ipa: u64,
     size: u64,
     attributes: u64,
-) -> Stage2Result
+) -> Result<(), Stage2ConfigError>
     ensures { result ≡ allow_answer (policy_at policy.now) base_ipa size }
 {
-    match stage2_range::validate_range(base_ipa, size) {
-        Stage2Result::Refused(error) => Stage2Result::Refused(error),
-        Stage2Result::Accepted => {
-            allow_answer_for(policy, Stage2Range::new(base_ipa, size, attributes))
-        }
-    }
+    stage2_range::validate_range(base_ipa, size)?;
+    allow_answer_for(policy, Stage2Range::new(base_ipa, size, attributes))
 }
 
 // Allows the guest to access a range directly: refusals 1 to 7, in order. The range and the count are stored, and no other word.
@@ -362,8 +337,8 @@ pub fn allow_range(policy: &mut [u8; POLICY_SIZE], base_ipa: u64, size: u64, att
     ensures { Leaves (allow_call policy.old base_ipa size attributes) result policy.new [] }
 {
     match allow_answer(policy, base_ipa, size, attributes) {
-        Stage2Result::Refused(error) => error.number(),
-        Stage2Result::Accepted => {
+        Err(error) => error.number(),
+        Ok(()) => {
             add_range(policy, Stage2Range::new(base_ipa, size, attributes));
             0
         }
@@ -372,35 +347,37 @@ pub fn allow_range(policy: &mut [u8; POLICY_SIZE], base_ipa: u64, size: u64, att
 
 // Refusals 6, 8 and 9, in order.
 #[tactic(auto, using(crate::proofs::Cases::handle_overlaps, crate::proofs::Cases::handle_full, crate::proofs::Cases::handle_handled, crate::proofs::Cases::handle_fits))]
-fn handle_answer_for(policy: &[u8; POLICY_SIZE], region: MemoryAccessRegion) -> Stage2Result
+fn handle_answer_for(
+    policy: &[u8; POLICY_SIZE],
+    region: MemoryAccessRegion,
+) -> Result<(), Stage2ConfigError>
     ensures { result ≡ answer_of (handle_cases (policy_at policy.now) (region_bytes region)) }
 {
     let region_bytes = region.bytes();
-    if overlaps_allowed(policy, region_bytes) {
-        return Stage2Result::Refused(Stage2ConfigError::AllowedRangeOverlap);
+    if overlaps::<0, RANGE_WORDS, MAX_ALLOWED_RANGES>(policy, region_bytes) {
+        return Err(Stage2ConfigError::AllowedRangeOverlap);
     }
     if MAX_MEMORY_ACCESS_HANDLERS <= get_region_count(policy) {
-        return Stage2Result::Refused(Stage2ConfigError::TooManyMemoryAccessHandlerRegions);
+        return Err(Stage2ConfigError::TooManyMemoryAccessHandlerRegions);
     }
-    if overlaps_regions(policy, region_bytes) {
-        return Stage2Result::Refused(Stage2ConfigError::MemoryAccessHandlerRangeOverlap);
+    if overlaps::<REGIONS, REGION_WORDS, MAX_MEMORY_ACCESS_HANDLERS>(policy, region_bytes) {
+        return Err(Stage2ConfigError::MemoryAccessHandlerRangeOverlap);
     }
-    Stage2Result::Accepted
+    Ok(())
 }
 
-// The place of the first region held whose base is not below this one, and how many are held where there is none.
+// The place of the first region held whose base is not below this one, and how many are held where there is none. (No option: a region
+// is inserted at either.)
 fn place_by_base(policy: &[u8; POLICY_SIZE], base_ipa: u64) -> u64
     ensures { result ≡ first_index (λ s. leb base_ipa s.base_ipa) (regions_held (policy_at policy.now)) }
 {
     let held = regions_held(policy);
-    let mut place: u64 = 0;
-    while place < held {
+    for place in 0..held {
         if base_ipa <= get_region_base(policy, place) {
             return place;
         }
-        place += 1;
     }
-    place
+    held
 }
 
 // Stores a region at a place among the first `n`, those from there on one place further.
@@ -409,10 +386,8 @@ fn place_at(policy: &mut [u8; POLICY_SIZE], n: u64, at: u64, region: MemoryAcces
     ensures { policy.new ≡ store_each with_region policy.old 0 (insert_at (each (region_at policy.old) 0 16) n at region) }
 {
     lent_words::are_bytes(policy);
-    let mut place = n;
-    while at < place {
-        copy_region(policy, (place - 1) as usize);
-        place -= 1;
+    for place in (at..n).rev() {
+        copy_region_to(policy, place, place + 1);
     }
     put_region(policy, at as usize, region);
 }
@@ -429,27 +404,24 @@ fn insert_region(policy: &mut [u8; POLICY_SIZE], region: MemoryAccessRegion)
 }
 
 // Refusals 20, 1 to 4, 6, 8, 9, in order.
+#[tactic(auto, using(stage2::proofs::Laws::handle_by_arguments))]
 fn handle_answer(
     policy: &[u8; POLICY_SIZE],
     base_ipa: u64,
     size: u64,
     read: u64,
     write: u64,
-) -> Stage2Result
+) -> Result<(), Stage2ConfigError>
     ensures { result ≡ handle_answer (policy_at policy.now) base_ipa size read write }
 {
     if !stage2_range::is_handler(read) {
-        return Stage2Result::Refused(Stage2ConfigError::UnknownMemoryHandler);
+        return Err(Stage2ConfigError::UnknownMemoryHandler);
     }
     if !stage2_range::is_handler(write) {
-        return Stage2Result::Refused(Stage2ConfigError::UnknownMemoryHandler);
+        return Err(Stage2ConfigError::UnknownMemoryHandler);
     }
-    match stage2_range::validate_range(base_ipa, size) {
-        Stage2Result::Refused(error) => Stage2Result::Refused(error),
-        Stage2Result::Accepted => {
-            handle_answer_for(policy, MemoryAccessRegion::new(base_ipa, size, read, write))
-        }
-    }
+    stage2_range::validate_range(base_ipa, size)?;
+    handle_answer_for(policy, MemoryAccessRegion::new(base_ipa, size, read, write))
 }
 
 // Has the guest's accesses to a range handled: refusals 20, 1 to 4, 6, 8, 9, in order. The region, those that it moves and the count are stored, and no
@@ -464,8 +436,8 @@ pub fn handle_range(
     ensures { Leaves (handle_call policy.old base_ipa size read write) result policy.new [] }
 {
     match handle_answer(policy, base_ipa, size, read, write) {
-        Stage2Result::Refused(error) => error.number(),
-        Stage2Result::Accepted => {
+        Err(error) => error.number(),
+        Ok(()) => {
             insert_region(policy, MemoryAccessRegion::new(base_ipa, size, read, write));
             0
         }

@@ -1,21 +1,23 @@
 // Release of a range on a policy in lent bytes. (RITM has no such call.)
+// (A call answers the number of its refusal, and no `Result`: `ritm` hands the number to C.)
 
 #![tactic(auto)]
 
-ghost use Rattle.std.specs.Prelude.{◌≡◌, [], ◌+◌, ◌-◌, ◌≤◌, ◌<◌};
-ghost use Rattle.lists.specs.Lists.{first_index, remove_at};
-ghost use Rattle.stage2_range.specs.Ranges.{is_range};
-ghost use Rattle.stage2_range.specs.Registry.{is_region};
-ghost use Rattle.stage2.specs.Policy.{allowed_held, regions_held};
+ghost use Rattle.std.specs.Prelude.{ℕ, ◌≡◌, [], ◌+◌, ◌-◌, ◌*◌, ◌≤◌, ◌<◌};
+ghost use Rattle.lists.specs.Lists.{remove_at};
 ghost use Rattle.lent_words.specs.Words.{each, Leaves};
-ghost use Rattle.lent_policy.specs.Layout.{region_count_at, range_at, region_at, policy_at, with_range, with_allowed, with_regions};
-ghost use Rattle.lent_release.specs.Calls.{is_stored, release_call, valid_release_call};
+ghost use Rattle.lent_policy.specs.Layout.{region_count_at, range_at, region_at, with_range, with_allowed, with_regions};
+ghost use Rattle.lent_release.specs.Calls.{is_stored, stored_place, release_call, valid_release_call};
 
 use lent_policy::{
     ALLOWED_COUNT, ATTRIBUTES_WORD, END_WORD, POLICY_SIZE, RANGE_WORDS, REGION_COUNT, REGION_WORDS,
     REGIONS, SIZE_WORD,
 };
-use stage2_range::{Stage2ConfigError, Stage2Result};
+use lists::refusal::Refusal;
+use stage2_range::Stage2ConfigError;
+
+// The word at which the allowed ranges begin: they stand first.
+const RANGES: usize = 0;
 
 // Whether the record whose words begin at one has this base and size.
 fn is_stored(policy: &[u8; POLICY_SIZE], at: usize, base_ipa: u64, size: u64) -> bool
@@ -27,39 +29,25 @@ fn is_stored(policy: &[u8; POLICY_SIZE], at: usize, base_ipa: u64, size: u64) ->
     (stored_base == base_ipa) & (stored_size == size)
 }
 
-// The place of the first allowed range held with this base and size, and how many are held where none has them.
-fn allowed_place(policy: &[u8; POLICY_SIZE], base_ipa: u64, size: u64) -> u64
-    ensures { result ≡ first_index (is_range base_ipa size) (allowed_held (policy_at policy.now)) }
+// The place of the first record with this base and size, of those held in a list. The list's words begin at `first`.
+fn stored_place(
+    policy: &[u8; POLICY_SIZE],
+    first: usize,
+    record_words: usize,
+    held: u64,
+    base_ipa: u64,
+    size: u64,
+) -> Option<u64>
+    requires { (k : ℕ) → k < held → first + record_words * k < region_count_at }
+    ensures { result ≡ stored_place policy.now first record_words held base_ipa size }
 {
-    let held = lent_policy::allowed_held(policy);
-    let mut place: u64 = 0;
-    while place < held {
-        if is_stored(policy, RANGE_WORDS * (place as usize), base_ipa, size) {
-            return place;
+    for place in 0..held {
+        let at = first + record_words * (place as usize);
+        if is_stored(policy, at, base_ipa, size) {
+            return Some(place);
         }
-        place += 1;
     }
-    place
-}
-
-// The same of the regions.
-fn region_place(policy: &[u8; POLICY_SIZE], base_ipa: u64, size: u64) -> u64
-    ensures { result ≡ first_index (is_region base_ipa size) (regions_held (policy_at policy.now)) }
-{
-    let held = lent_policy::regions_held(policy);
-    let mut place: u64 = 0;
-    while place < held {
-        if is_stored(
-            policy,
-            REGIONS + REGION_WORDS * (place as usize),
-            base_ipa,
-            size,
-        ) {
-            return place;
-        }
-        place += 1;
-    }
-    place
+    None
 }
 
 // Stores an allowed range one place sooner too.
@@ -80,17 +68,17 @@ fn copy_range_down(policy: &mut [u8; POLICY_SIZE], place: usize)
     lent_words::put_word(policy, to + ATTRIBUTES_WORD, attributes);
 }
 
-// Stores the first `n` allowed ranges without the one at a place, those after it one place sooner, and counts them.
+// Stores the first `n` allowed ranges without the one at a place, those after it one place sooner, and counts them. (A loop apart from the
+// regions' one: a range is copied word for word, a region by `with_region`, where a code that means the handler stays. One loop that is
+// given its copy needs a clause on the calls that it makes, which is longer than the loop.)
 fn remove_range(policy: &mut [u8; POLICY_SIZE], n: u64, at: u64)
     requires { (at < n) × (n ≤ 32) }
     ensures { policy.new ≡ with_allowed policy.old (remove_at (each (range_at policy.old) 0 32) n at) (n - 1) }
 {
     lent_words::are_bytes(policy);
     let last = n - 1;
-    let mut place = at;
-    while place < last {
+    for place in at..last {
         copy_range_down(policy, place as usize);
-        place += 1;
     }
     lent_words::put_word(policy, ALLOWED_COUNT, last);
 }
@@ -102,29 +90,24 @@ fn remove_region(policy: &mut [u8; POLICY_SIZE], n: u64, at: u64)
 {
     lent_words::are_bytes(policy);
     let last = n - 1;
-    let mut place = at;
-    while place < last {
+    for place in at..last {
         lent_policy::copy_region_to(policy, place + 1, place);
-        place += 1;
     }
     lent_words::put_word(policy, REGION_COUNT, last);
 }
 
 // Refusal 23; else one record goes, of the allowed ranges before the regions.
-#[tactic(auto, using(crate::proofs::Laws::range_leaves, crate::proofs::Laws::region_leaves, crate::proofs::Laws::none_leaves))]
 fn release_valid(policy: &mut [u8; POLICY_SIZE], base_ipa: u64, size: u64) -> u64
     ensures { Leaves (valid_release_call policy.old base_ipa size) result policy.new [] }
 {
     let ranges = lent_policy::allowed_held(policy);
-    let at = allowed_place(policy, base_ipa, size);
-    if at < ranges {
+    if let Some(at) = stored_place(policy, RANGES, RANGE_WORDS, ranges, base_ipa, size) {
         remove_range(policy, ranges, at);
         return 0;
     }
     let regions = lent_policy::regions_held(policy);
-    let place = region_place(policy, base_ipa, size);
-    if place < regions {
-        remove_region(policy, regions, place);
+    if let Some(at) = stored_place(policy, REGIONS, REGION_WORDS, regions, base_ipa, size) {
+        remove_region(policy, regions, at);
         return 0;
     }
     Stage2ConfigError::RangeNotHeld.number()
@@ -136,7 +119,7 @@ pub fn release_range(policy: &mut [u8; POLICY_SIZE], base_ipa: u64, size: u64) -
     ensures { Leaves (release_call policy.old base_ipa size) result policy.new [] }
 {
     match stage2_range::validate_range(base_ipa, size) {
-        Stage2Result::Refused(error) => error.number(),
-        Stage2Result::Accepted => release_valid(policy, base_ipa, size),
+        Err(error) => error.number(),
+        Ok(()) => release_valid(policy, base_ipa, size),
     }
 }

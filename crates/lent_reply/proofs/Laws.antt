@@ -46,13 +46,13 @@ module _ (b : List ℕ) (i : ℕ) (values : List ℕ) (bytes : Bytes b) (h : i <
       with_word (with_word (with_words b (core_length * i) (written result)) (core_length * i + elr_word) (resumed_elr conduit (core_of (cores_at b) i).elr)) (core_length * i + wait_word) code
 
   -- the length of what a result writes is known, so that the words are compared one by one
-  pub reply-put : (result : HvcResult) → left result ≡ with_core b i (after (written result) (core_of (cores_at b) i))
+  pub reply_put : (result : HvcResult) → left result ≡ with_core b i (after (written result) (core_of (cores_at b) i))
   unfolding response with_first with_registers core_at resumed
-  reply-put Unhandled = core-put b i (differing (written Unhandled)) (after (written Unhandled)) bytes (omega arith) refl h
-  reply-put (Value v) = core-put b i (differing (written (Value v))) (after (written (Value v))) bytes (omega arith) refl h
-  reply-put Success = core-put b i (differing (written Success)) (after (written Success)) bytes (omega arith) refl h
-  reply-put SuccessLarge = core-put b i (differing (written SuccessLarge)) (after (written SuccessLarge)) bytes (omega arith) refl h
-  reply-put (Error e) = core-put b i (differing (written (Error e))) (after (written (Error e))) bytes (omega arith) refl h
+  reply_put Unhandled = core-put b i (differing (written Unhandled)) (after (written Unhandled)) bytes (omega arith) refl h
+  reply_put (Value v) = core-put b i (differing (written (Value v))) (after (written (Value v))) bytes (omega arith) refl h
+  reply_put Success = core-put b i (differing (written Success)) (after (written Success)) bytes (omega arith) refl h
+  reply_put SuccessLarge = core-put b i (differing (written SuccessLarge)) (after (written SuccessLarge)) bytes (omega arith) refl h
+  reply_put (Error e) = core-put b i (differing (written (Error e))) (after (written (Error e))) bytes (omega arith) refl h
 
 -- A reply to a core above 7, and to one of the eight.
 module _ (cores : List ℕ) (i kind : ℕ) (values : List ℕ) (error : ℤ) where

@@ -1,9 +1,10 @@
 // A reply to a forwarded call on the bytes that a host lends, in place: it stores the registers that the reply writes, ELR and the wait, and makes the
 // decisions of `forwarded_call` and `hvc_response`.
+// (A call answers the number of its refusal, and no `Result`: `ritm` hands the number to C.)
 
 #![tactic(auto)]
 
-ghost use Rattle.std.specs.Prelude.{◌≡◌, [], ◌+◌, ◌<◌, ◌≤◌, take};
+ghost use Rattle.std.specs.Prelude.{◌≡◌, [], ◌+◌, ◌<◌, ◌≤◌};
 ghost use Rattle.lent_words.specs.Words.{words_at, with_word, with_words, store_each, Leaves};
 ghost use Rattle.lent_cores.specs.Layout.{held_core, with_core};
 ghost use Rattle.hvc_response.specs.Response.{reply_length, response, with_first};
@@ -11,45 +12,28 @@ ghost use Rattle.forwarded_call.specs.ForwardedCall.{resumed};
 ghost use Rattle.lent_reply.specs.LentReply.{reply_call};
 
 use core_answers::CoreError;
-use exceptions::{Conduit, Wait};
-use forwarded_call::ReplyDecision;
+use exceptions::Conduit;
 use hvc_response::{HvcResult, NOT_SUPPORTED, REPLY_VALUES};
 use lent_cores::{CORE_WORDS, CORES_SIZE, ELR_WORD, LAST_CORE, WAIT_CODES, WAIT_WORD};
+use lists::refusal::Refusal;
 
 // The length of the buffer of a reply's values, in bytes.
 pub const VALUES_SIZE: usize = 8 * REPLY_VALUES;
 
-// The values of a reply from one on, and zeros past the last.
-fn get_values(values: &[u8; VALUES_SIZE], from: usize) -> [u64; REPLY_VALUES]
-    requires { from ≤ reply_length }
-    ensures { result ≡ words_at values.now from reply_length }
-{
-    let mut out = [0u64; REPLY_VALUES];
-    let mut i: usize = 0;
-    while i < REPLY_VALUES {
-        out[i] = lent_words::get_word(values, from + i);
-        i += 1;
-    }
-    out
-}
-
-// Stores `count` values of a reply from one on, in the words of their numbers. They are read before the first store, so that two words go at a time.
-fn put_values(
+// Stores values of a reply from one on, in the words of their numbers. They are read before the first store, so that two words go at a time.
+fn put_values<const COUNT: usize>(
     cores: &mut [u8; CORES_SIZE],
     at: usize,
     values: &[u8; VALUES_SIZE],
     from: usize,
-    count: usize,
 )
-    requires { (at ≤ 266) × (from ≤ reply_length) × (count ≤ reply_length) }
+    requires { (at ≤ 266) × (from ≤ reply_length) × (COUNT ≤ reply_length) }
     ensures { cores.new
-        ≡ store_each (λ b j w. with_word b (at + (from + j)) w) cores.old 0 (take count (words_at values.now from reply_length)) }
+        ≡ store_each (λ b j w. with_word b (at + (from + j)) w) cores.old 0 (words_at values.now from COUNT) }
 {
-    let read = get_values(values, from);
-    let mut i: usize = 0;
-    while i < count {
-        lent_words::put_word(cores, at + (from + i), read[i]);
-        i += 1;
+    let read: [u64; COUNT] = lent_cores::get_words(values, from);
+    for (i, value) in read.iter().enumerate() {
+        lent_words::put_word(cores, at + (from + i), *value);
     }
 }
 
@@ -75,12 +59,10 @@ fn modify_register_state(
             lent_words::put_word(cores, at + 2, 0);
             lent_words::put_word(cores, at + 3, 0);
         }
-        HvcResult::Success => {
-            put_values(cores, at, values, 0, 4);
-        }
+        HvcResult::Success => put_values::<4>(cores, at, values, 0),
         HvcResult::SuccessLarge => {
-            put_values(cores, at, values, 0, 4);
-            put_values(cores, at, values, 4, 14);
+            put_values::<4>(cores, at, values, 0);
+            put_values::<14>(cores, at, values, 4);
         }
         HvcResult::Error(error) => {
             lent_words::put_word(cores, at, hvc_response::error_to_u64(error));
@@ -89,6 +71,7 @@ fn modify_register_state(
 }
 
 // Stores what a reply writes: its registers, ELR, and that the core waits no more.
+#[tactic(auto, using(crate::proofs::Laws::reply_put))]
 fn put_reply(
     cores: &mut [u8; CORES_SIZE],
     core: u64,
@@ -110,7 +93,7 @@ fn put_reply(
 }
 
 // Gives a core the answer that it waits for: refusals 10, 14, 15.
-#[tactic(auto, using(crate::proofs::Laws::reply_none))]
+#[tactic(auto, using(crate::proofs::Laws::reply_none, crate::proofs::Laws::reply_one, core_answers::proofs::Laws::error_not_zero))]
 pub fn reply(
     cores: &mut [u8; CORES_SIZE],
     core: u64,
@@ -125,10 +108,10 @@ pub fn reply(
     }
     let wait = lent_core::get_wait(cores, core);
     match forwarded_call::decide_reply(wait, kind, lent_words::get_word(values, 0), error) {
-        ReplyDecision::Taken(result, conduit) => {
+        Ok((result, conduit)) => {
             put_reply(cores, core, conduit, result, values);
             0
         }
-        ReplyDecision::Refused(refusal) => refusal.number(),
+        Err(refusal) => refusal.number(),
     }
 }

@@ -16,7 +16,6 @@ use Rattle.data_abort.specs.declared.TrapRegisters.{TrapRegisters}
 use Rattle.core_answers.specs.declared.CoreError.TheVariants.{NoSuchCore}
 use Rattle.core_answers.specs.declared.CoreStep.{CoreStep}
 use Rattle.hypervisor.specs.declared.CoresStep.{CoresStep}
-use Rattle.core_answers.specs.declared.TrapAnswer.TheVariants as trap-answer
 use Rattle.hypervisor.specs.declared.Trapped.{Trapped}
 use Rattle.core_answers.specs.Answers.{core_number, trap_number, without_values}
 use Rattle.hypervisor.specs.Trap.{handle_sync_lower}
@@ -28,6 +27,7 @@ use Rattle.lent_words.specs.Words.{unless_refused}
 use Rattle.lent_core.specs.Calls.{stepped_core, write_call}
 use Rattle.exceptions.proofs.InWords.{InWords, in_written}
 use Rattle.hypervisor.proofs.InWords.{in_trapped}
+use Rattle.std.specs.Prelude.{Err, Ok}
 
 -- bytes hold these cores and this counter
 abbrev pub Holds : List ℕ → List Core → ℕ → Type 0
@@ -109,7 +109,7 @@ module _ (b : List ℕ) (i : ℕ) (lent : Lent cores_size b) where
       t_of : Bool → Trapped
       t_of u =
           cond u
-          (record { result = without_values (trap-answer.Refused NoSuchCore); policy = policy; cores = cores_at b; counter = counter_at b })
+          (record { result = without_values (Err NoSuchCore); policy = policy; cores = cores_at b; counter = counter_at b })
           (trapped_by (handle_sync_lower (regions_held policy) core (counter_at b) trap) policy (cores_at b) i)
 
       go : (u : Bool) → ltb 7 i ≡ u → trap_number (t_of u).result.answer ≡ 0

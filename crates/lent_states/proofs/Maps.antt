@@ -11,18 +11,18 @@ use Rattle.lent_words.specs.Words.{word_at, FitsWord, Bytes, Lent}
 use Rattle.lent_words.proofs.Words.{length-each}
 use Rattle.lent_words.proofs.RoundTrip.{Every, word_fits}
 use Rattle.lent_words.proofs.Every.{every_each, every_replace}
-use Rattle.simple_map.specs.declared.Insertion.TheVariants.{Accepted, CapacityExceeded}
 use Rattle.simple_map.specs.declared.Inserted.{Inserted}
-use Rattle.simple_map.specs.declared.Place.{Place}
-use Rattle.simple_map.specs.Map.{free_place, taken, is_free, holds_key, has_room, without, insert_item, insert_number, remove_item}
+use Rattle.simple_map.specs.declared.Item.{Item}
+use Rattle.simple_map.specs.Map.{free_place, taken, is_free, holds_key, has_room, without, insert_item, insert_number, remove_item, capacity_exceeded}
 use Rattle.lent_map.specs.Layout.{map_size, place_at, map_at, with_places}
 use Rattle.lent_map.proofs.Records.{ItemFits}
 use Rattle.lent_map.proofs.States.{places_back}
 use Rattle.ritm.specs.Interface.{unless_refused, insert_call, remove_call}
+use Rattle.std.specs.Prelude.{Err, Ok, Option}
 
 -- the numbers of a place fit words
-abbrev PlaceFits : Place → Type 0
-PlaceFits p = ItemFits p.item
+abbrev PlaceFits : Option Item → Type 0
+PlaceFits p = ItemFits p
 
 -- what bytes hold fits words
 place_fits_lem : (b : List ℕ) → Bytes b → (k : ℕ) → PlaceFits (place_at b k)
@@ -62,14 +62,14 @@ module _ (b : List ℕ) (key : ℕ) (lent : Lent map_size b) where
   unfolding insert_call insert_item
   insert_held entry context f g h = go (has_room (map_at b) key)
     where
-      place : Place
+      place : Option Item
       place = taken key (record { entry_point = entry; context_id = context })
 
-      items : List Place
+      items : List (Option Item)
       items = replace_first is_free place (without key (map_at b).items)
 
       inserted : Bool → Inserted
-      inserted room = cond room (record { answer = Accepted; map = record { items = items } }) (record { answer = CapacityExceeded; map = map_at b })
+      inserted room = cond room (record { answer = Ok tt; map = record { items = items } }) (record { answer = Err capacity_exceeded; map = map_at b })
 
       go : (room : Bool) → map_at (unless_refused (insert_number (inserted room).answer) b (with_places b (inserted room).map.items)) ≡ (inserted room).map
       go true =

@@ -13,8 +13,6 @@ use Rattle.lent_words.specs.Words.{FitsWord, Lent}
 use Rattle.lent_words.proofs.Words.{length-each}
 use Rattle.lent_words.proofs.RoundTrip.{Every}
 use Rattle.lent_words.proofs.Every.{every_each, every_append, every_take, every_drop, every_insert}
-use Rattle.stage2_range.specs.declared.Stage2Result.{Stage2Result}
-use Rattle.stage2_range.specs.declared.Stage2Result.TheVariants.{Accepted, Refused}
 use Rattle.stage2_range.specs.declared.MemoryAccessRegion.{MemoryAccessRegion}
 use Rattle.stage2_range.specs.Ranges.{is_range, error_number, result_number}
 use Rattle.stage2_range.specs.Registry.{region_of, is_region, insert_region}
@@ -30,6 +28,8 @@ use Rattle.lent_policy.specs.Layout.{policy_size, range_at, region_at, policy_at
 use Rattle.lent_policy.proofs.Records.{RangeFits, RegionFits, asked_region_fits, range_fits, region_fits_lem}
 use Rattle.lent_policy.proofs.States.{allowed_back, regions_back}
 use Rattle.ritm.specs.Interface.{unless_refused, handle_call, release_call}
+use Rattle.std.specs.Prelude.{Err, Ok, Result, ⊤}
+use Rattle.stage2_range.specs.declared.Stage2ConfigError.{Stage2ConfigError}
 
 -- regions with one more fit words
 inserted_fits : (rs : List MemoryAccessRegion) (n : ℕ) (r : MemoryAccessRegion) → n < length rs → Every RegionFits rs → RegionFits r
@@ -55,11 +55,11 @@ handle_held b base size read write lent f g = go (handle_answer p base size read
     next : Policy
     next = policy.add_region p region
 
-    go : (answer : Stage2Result) → handle_answer p base size read write ≡ answer
+    go : (answer : Result ⊤ Stage2ConfigError) → handle_answer p base size read write ≡ answer
         → policy_at (unless_refused (result_number (built_by answer p next).answer) b (with_regions b (built_by answer p next).policy.regions (built_by answer p next).policy.region_count))
         ≡ (built_by answer p next).policy
-    go (Refused e) q = rw (ne_eqb (error_number e) 0 (error_not_zero e))
-    go Accepted q =
+    go (Err e) q = rw (ne_eqb (error_number e) 0 (error_not_zero e))
+    go (Ok tt) q =
         let can = handle_accepted p base size read write (ap (λ a. (built_by a p next).answer) q) in
         let long = length-each (region_at b) 0 16 in
         regions_back b (insert_region p.regions p.region_count region) (p.region_count + 1) lent
@@ -101,7 +101,7 @@ module _ (b : List ℕ) (base size : ℕ) (lent : Lent policy_size b) where
       by true = allowed_less
       by false = regions-less
 
-      go : (answer : Stage2Result) → (release_range p base size).answer ≡ answer → policy_at (release_call b base size).state ≡ (release_range p base size).policy
-      go (Refused e) h =
+      go : (answer : Result ⊤ Stage2ConfigError) → (release_range p base size).answer ≡ answer → policy_at (release_call b base size).state ≡ (release_range p base size).policy
+      go (Err e) h =
           rw (h, ne_eqb (error_number e) 0 (error_not_zero e)) (sym (release_refused p base size (λ z. error_not_zero e (sym (ap result_number h) ∙ z))))
-      go Accepted h = rw (can_release p base size (release_accepted p base size h)) (by (range_held p base size))
+      go (Ok tt) h = rw (can_release p base size (release_accepted p base size h)) (by (range_held p base size))

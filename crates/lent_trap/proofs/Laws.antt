@@ -9,7 +9,6 @@ use borrow.Author.Tests.{lt-ltb, le-ltb, eqb-true}
 use Rattle.data_abort.specs.declared.TrapRegisters.{TrapRegisters}
 use Rattle.stage2.specs.Policy.{regions_held}
 use Rattle.core_answers.specs.declared.CoreError.TheVariants.{NoSuchCore}
-use Rattle.core_answers.specs.declared.TrapAnswer.TheVariants.{Refused}
 use Rattle.core_answers.specs.Answers.{without_values, result_words}
 use Rattle.hypervisor.specs.Trap.{handle_sync_lower}
 use Rattle.hypervisor.specs.Cores.{trap_on}
@@ -22,10 +21,11 @@ use Rattle.lent_trap.specs.LentTrap.{trap_call, trapped_one}
 use lib.Dec.{eqb}
 use lib.ListN.{length}
 use Rattle.exceptions.specs.declared.Core.{Core}
+use Rattle.std.specs.Prelude.{Err}
 
 module _ (policy cores : List ℕ) (i : ℕ) (trap : TrapRegisters) where
   pub trap_none : 7 < i
-      → trap_call policy cores i trap ≡ record { number = 10; state = cores; result = bytes_of (result_words (without_values (Refused NoSuchCore))) }
+      → trap_call policy cores i trap ≡ record { number = 10; state = cores; result = bytes_of (result_words (without_values (Err NoSuchCore))) }
   unfolding trap_call trap_on
   trap_none h = rw (lt-ltb 7 i h)
 

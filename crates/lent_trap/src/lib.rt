@@ -1,5 +1,7 @@
 // A core's trap on the bytes that a host lends, in place: it reads and stores the words that the trap asks for, and makes the decisions of `hypervisor`
 // and the crates below it.
+// (A call answers the number of its refusal, and no `Result`: `ritm` hands the number to C. Policy, cores, core and result stay apart: they are C's
+// buffers, and of a struct of references each clause would name a field of a field.)
 
 #![tactic(auto)]
 
@@ -14,24 +16,26 @@ ghost use Rattle.forwarded_call.specs.ForwardedCall.{forward_call};
 ghost use Rattle.hypervisor.specs.Trap.{exception_class, forwarded, by_class};
 ghost use Rattle.lent_trap.specs.LentTrap.{trap_call, trapped_one};
 
-use core_answers::{CoreError, TrapAnswer};
-use data_abort::{AccessOutcome, TrapRegisters};
-use exceptions::{Conduit, Wait};
+use core_answers::{CoreError, TrapAnswer, TrapResult};
+use data_abort::{HandledAccess, TrapRegisters};
+use exceptions::Conduit;
 use forwarded_call::GuestCall;
 use hypervisor::ExceptionClass;
 use lent_cores::{CORES_SIZE, LAST_CORE, TRAP_RESULT_SIZE};
 use lent_policy::POLICY_SIZE;
-use memory_access::{Decoded, MemoryAccessKind};
+use lists::refusal;
+use memory_access::MemoryAccessKind;
 
 // Writes an answer without values, and gives its number.
-fn answer(answer: TrapAnswer, res: &mut [u8; TRAP_RESULT_SIZE]) -> u64
+fn answer(answer: Result<TrapAnswer, CoreError>, res: &mut [u8; TRAP_RESULT_SIZE]) -> u64
     ensures { (result ≡ trap_number answer) × (res.new ≡ bytes_of (result_words (without_values answer))) }
 {
-    lent_cores::put_trap_result(res, answer.without_values());
-    answer.number()
+    lent_cores::put_trap_result(res, TrapResult::without_values(answer));
+    refusal::answer_number(answer)
 }
 
 // Hands a call out: the core waits, its own x0 as it was, and the result has the call's values and its hint.
+#[tactic(auto, using(crate::proofs::Laws::left_alone), unfolding(forwarded_call::specs::ForwardedCall::forward_call, forwarded_call::specs::ForwardedCall::with_wait, exceptions::specs::Registers::read_gpr))]
 fn forward_call(
     cores: &mut [u8; CORES_SIZE],
     core: u64,
@@ -44,10 +48,10 @@ fn forward_call(
 {
     lent_words::are_bytes(cores);
     let x0 = lent_core::get_gpr(cores, core, 0);
-    let call = GuestCall::from_x0(x0.value());
+    let call = GuestCall::from_x0(x0.unwrap_or(0));
     lent_core::put_forwarded(res, call, cores, core);
     let recipient = call.recipient;
-    lent_core::put_wait(cores, core, Wait::Call(conduit, recipient));
+    lent_core::put_wait(cores, core, Some((conduit, recipient)));
     0
 }
 
@@ -59,21 +63,17 @@ fn try_memory_access_handler(
     core: u64,
     counter: u64,
     trap: TrapRegisters,
-) -> AccessOutcome
+) -> Option<HandledAccess>
     ensures { result ≡ try_memory_access (regions_held (policy_at policy.now)) (held_core cores.now core) counter trap }
 {
-    match data_abort::decode_abort(trap) {
-        Decoded::Access(access) => {
-            let ipa = access.ipa;
-            let rt = lent_core::get_gpr(cores, core, access.register_index).value();
-            let found = lent_policy::find_region(policy, ipa);
-            data_abort::emulate_access(found, access, rt, counter)
-        }
-        Decoded::NoSyndrome => AccessOutcome::Unhandled,
-    }
+    let access = data_abort::decode_abort(trap)?;
+    let rt = lent_core::get_gpr(cores, core, access.register_index).unwrap_or(0);
+    let found = lent_policy::find_region(policy, access.ipa);
+    data_abort::emulate_access(found, access, rt, counter)
 }
 
 // Injects a data abort into a core.
+#[tactic(auto, using(crate::proofs::Laws::left_alone), unfolding(data_abort::specs::DataAbort::inject_data_abort, data_abort::specs::DataAbort::injected))]
 fn inject_data_abort(
     cores: &mut [u8; CORES_SIZE],
     core: u64,
@@ -85,15 +85,14 @@ fn inject_data_abort(
         Leaves (trapped_one cores.old core step) result cores.new res.new }
 {
     if trap.vbar == 0 {
-        return answer(TrapAnswer::Refused(CoreError::NoGuestVector), res);
+        return answer(Err(CoreError::NoGuestVector), res);
     }
     lent_words::are_bytes(cores);
     let elr = lent_core::get_elr(cores, core);
     let spsr = lent_core::get_spsr(cores, core);
     let to = data_abort::injection_of(elr, spsr, trap);
-    let el1 = to.el1;
-    lent_core::put_return(cores, core, to.elr, to.spsr, el1);
-    answer(TrapAnswer::AbortInjected, res)
+    lent_core::put_return(cores, core, to);
+    answer(Ok(TrapAnswer::AbortInjected), res)
 }
 
 // Stores the counter, where it is another than before.
@@ -106,6 +105,7 @@ fn put_grown(cores: &mut [u8; CORES_SIZE], before: u64, after: u64)
 }
 
 // A data abort of one core.
+#[tactic(auto, using(crate::proofs::Laws::left_alone, crate::proofs::Laws::grown, data_abort::proofs::Laws::by_outcome, exceptions::proofs::Laws::write_length), unfolding(exceptions::specs::Registers::advance_pc))]
 fn handle_data_abort(
     policy: &[u8; POLICY_SIZE],
     cores: &mut [u8; CORES_SIZE],
@@ -120,16 +120,16 @@ fn handle_data_abort(
     lent_words::are_bytes(cores);
     let counter = lent_cores::get_counter(cores);
     match try_memory_access_handler(policy, cores, core, counter, trap) {
-        AccessOutcome::Loaded(register_index, value, after) => {
+        Some(HandledAccess::Loaded(register_index, value, after)) => {
             lent_core::put_load(cores, core, register_index, value);
             put_grown(cores, counter, after);
-            answer(TrapAnswer::AccessHandled(MemoryAccessKind::Read), res)
+            answer(Ok(TrapAnswer::AccessHandled(MemoryAccessKind::Read)), res)
         }
-        AccessOutcome::Stored => {
+        Some(HandledAccess::Stored) => {
             lent_core::put_advanced(cores, core);
-            answer(TrapAnswer::AccessHandled(MemoryAccessKind::Write), res)
+            answer(Ok(TrapAnswer::AccessHandled(MemoryAccessKind::Write)), res)
         }
-        AccessOutcome::Unhandled => inject_data_abort(cores, core, trap, res),
+        None => inject_data_abort(cores, core, trap, res),
     }
 }
 
@@ -150,17 +150,12 @@ fn dispatch(
         ExceptionClass::HvcTrappedInAArch64 => forward_call(cores, core, Conduit::Hvc, res),
         ExceptionClass::SmcTrappedInAArch64 => forward_call(cores, core, Conduit::Smc, res),
         ExceptionClass::DataAbortLowerEl => handle_data_abort(policy, cores, core, trap, res),
-        ExceptionClass::Unknown => {
-            answer(
-                TrapAnswer::Refused(CoreError::UnexpectedExceptionClass),
-                res,
-            )
-        }
+        ExceptionClass::Unknown => { answer(Err(CoreError::UnexpectedExceptionClass), res) }
     }
 }
 
 // Takes a core's trap: refusals 10 to 13. The result is the answer's kind, and the values and the SVE hint of a forwarded call.
-#[tactic(auto, using(crate::proofs::Laws::trap_none))]
+#[tactic(auto, using(crate::proofs::Laws::trap_none, crate::proofs::Laws::trap_one), unfolding(hypervisor::specs::Trap::handle_sync_lower))]
 pub fn trap(
     policy: &[u8; POLICY_SIZE],
     cores: &mut [u8; CORES_SIZE],
@@ -171,10 +166,10 @@ pub fn trap(
     ensures { Leaves (trap_call policy.now cores.old core trap) result cores.new res.new }
 {
     if LAST_CORE < core {
-        return answer(TrapAnswer::Refused(CoreError::NoSuchCore), res);
+        return answer(Err(CoreError::NoSuchCore), res);
     }
     match lent_core::get_wait(cores, core) {
-        Wait::Call(_, _) => answer(TrapAnswer::Refused(CoreError::CoreWaiting), res),
-        Wait::Nothing => dispatch(policy, cores, core, trap, res),
+        Some(_) => answer(Err(CoreError::CoreWaiting), res),
+        None => dispatch(policy, cores, core, trap, res),
     }
 }

@@ -1,5 +1,5 @@
 -- Laws of words in bytes, and of records at places: what was stored is read back, and what stands beside it is as it was. Assumes nothing.
-use Prim.Native.Nat.{ℕ, zero, suc, ◌+◌, ◌-◌, ◌*◌, ◌/◌, ◌%◌, ◌^◌, ◌<◌, ◌≤◌}
+use Prim.Native.Nat.{ℕ, zero, suc, ◌+◌, ◌-◌, ◌*◌, ◌/◌, ◌^◌, ◌<◌, ◌≤◌}
 use mathlib.Core.Path.{◌≡◌, refl, sym, ap, ◌∙◌}
 use mathlib.Core.Bool.{Bool, true, false, cond}
 use mathlib.Core.Logic.{◌⊎◌, inl, inr}
@@ -10,44 +10,10 @@ use native.Mathlib.Nat.{add-zero, zero-add, add-suc, suc-add}
 use lib.Dec.{ltb}
 use borrow.Author.Tests.{ltb-true, ltb-false, le-leb, lt-leb}
 use lib.ListN.{length, get_or, set, take, drop, length-set, length-append, length-drop}
-use lib.Seq.{drop-cons, sets, sets-eq, length-sets, take_all, take_at, drop_at, drop-set-lt, drop-set-add, take-set-le, take-suc, take-suc-set, length-take-le, drop-append-add}
+use borrow.Rule.Slice.PartMut.{put_mid}
+use lib.Seq.{drop-drop, sets, sets-eq, length-sets, take_all, take_at, drop_at, drop-set-lt, drop-set-add, take-set-le, take-suc, take-suc-set, length-take-le, drop-append-add}
 use Rattle.lists.proofs.Laws.{cond_all}
 use Rattle.lent_words.specs.Words.{of_bytes, to_bytes, has_word, word_at, with_word, each, store_each, with_words, bytes_of}
-
--- what stands at places counted from `k` on
-pub each_offset : {A : Type 0} (f : ℕ → A) (k i n : ℕ) → each f (k + i) n ≡ each (λ j. f (k + j)) i n
-each_offset f k i zero = refl
-each_offset {A} f k i (suc n) = rw (sym (add-suc k i)) (ap (◌∷◌ (f (k + i))) (each_offset f k (suc i) n))
-
--- a part of a list, element by element
-pub part : (l : List ℕ) (k n : ℕ) → k + n ≤ length l → take n (drop k l) ≡ each (λ j. get_or l j 0) k n
-part l k zero h = refl
-part l k (suc n) h = rw (drop-cons l k 0 (omega arith)) (ap (◌∷◌ (get_or l k 0)) (part l (suc k) n (omega arith)))
-
-pub eight : (l : List ℕ) (k : ℕ) → k + 8 ≤ length l → take 8 (drop k l) ≡ get_or l k 0 ∷ get_or l (k + 1) 0 ∷ get_or l (k + 2) 0 ∷ get_or l (k + 3) 0 ∷ get_or l (k + 4) 0 ∷ get_or l (k + 5) 0 ∷ get_or l (k + 6) 0 ∷ get_or l (k + 7) 0 ∷ []
-eight l k h =
-    let z : k + 0 ≡ k = add-zero k in
-    part l k 8 h ∙ ap (λ (j : ℕ). each (λ m. get_or l m 0) j 8) (sym z) ∙ each_offset (λ m. get_or l m 0) k 0 8 ∙ rw z
-
--- the stores of the eight bytes of a word
-pub stored_bytes : (l : List ℕ) (k v : ℕ)
-    → set (set (set (set (set (set (set (set l k (v % 256)) (k + 1) (v / 256 % 256)) (k + 2) (v / 65536 % 256)) (k + 3) (v / 16777216 % 256)) (k + 4) (v / 4294967296 % 256)) (k + 5) (v / 1099511627776 % 256)) (k + 6) (v / 281474976710656 % 256)) (k + 7) (v / 72057594037927936 % 256)
-    ≡ sets l k (to_bytes 8 v)
-stored_bytes l k v =
-    let s1 : k + 1 ≡ suc k = omega arith in
-    let s2 : k + 2 ≡ suc (suc k) = omega arith in
-    let s3 : k + 3 ≡ suc (suc (suc k)) = omega arith in
-    let s4 : k + 4 ≡ suc (suc (suc (suc k))) = omega arith in
-    let s5 : k + 5 ≡ suc (suc (suc (suc (suc k)))) = omega arith in
-    let s6 : k + 6 ≡ suc (suc (suc (suc (suc (suc k))))) = omega arith in
-    let s7 : k + 7 ≡ suc (suc (suc (suc (suc (suc (suc k)))))) = omega arith in
-    let d2 : v / 65536 ≡ v / 256 / 256 = omega arith in
-    let d3 : v / 16777216 ≡ v / 256 / 256 / 256 = omega arith in
-    let d4 : v / 4294967296 ≡ v / 256 / 256 / 256 / 256 = omega arith in
-    let d5 : v / 1099511627776 ≡ v / 256 / 256 / 256 / 256 / 256 = omega arith in
-    let d6 : v / 281474976710656 ≡ v / 256 / 256 / 256 / 256 / 256 / 256 = omega arith in
-    let d7 : v / 72057594037927936 ≡ v / 256 / 256 / 256 / 256 / 256 / 256 / 256 = omega arith in
-    rw (s1, s2, s3, s4, s5, s6, s7, d2, d3, d4, d5, d6, d7)
 
 -- bytes that were split off a number make it again
 pub of_to : (n v : ℕ) → v < 256 ^ n → of_bytes (to_bytes n v) ≡ v
@@ -100,6 +66,11 @@ length-word l i v = word_all (λ b. length b ≡ length l) l i v (length-sets l 
 -- the bytes before a word, the word's, and those past it
 pub word_parts : (l : List ℕ) (i v : ℕ) → 8 * i + 8 ≤ length l → with_word l i v ≡ take (8 * i) l ++ to_bytes 8 v ++ drop (8 * i + 8) l
 word_parts l i v h = word_stored l i v h ∙ sets-eq (to_bytes 8 v) l (8 * i) h
+
+-- a word that is stored, as a write to those eight bytes leaves it
+pub word_put : (l c : List ℕ) (i v n : ℕ) → 8 * i + 8 ≤ length l → n ≡ 8 → c ≡ to_bytes 8 v → put_mid (8 * i) n l c ≡ with_word l i v
+word_put l c i v n h e f =
+    rw (e, f, drop-drop 8 (8 * i) l) (sym (word_parts l i v h ∙ append_assoc (take (8 * i) l) (to_bytes 8 v) (drop (8 * i + 8) l)))
 
 -- The word that was written is read back.
 pub word_same : (l : List ℕ) (i v : ℕ) → 8 * i + 8 ≤ length l → v < 2 ^ 64 → word_at (with_word l i v) i ≡ v

@@ -1,6 +1,7 @@
 -- The instruction syndrome of a data abort, and the access that it describes (document 01, "Access"). Field names and places are those of
 -- Arm DDI 0601, ESR_EL2, "ISS encoding for an exception from a Data Abort". Assumes nothing.
-use Rattle.std.specs.Prelude.{Bool, true, false, cond, List, [], ◌∷◌, ℕ, ◌+◌, ◌*◌, ◌%◌, ◌^◌, get_or, replicate}
+use Rattle.std.specs.Prelude.{Bool, true, false, cond, List, [], ◌∷◌, ℕ, ◌+◌, ◌*◌, ◌%◌, ◌^◌, get_or, replicate, None, Option, Some}
+use Rattle.lists.specs.Refusals.{missing_number}
 use Rattle.bits.specs.Bits.{bits_at, bit_at}
 use Rattle.memory_access.specs.declared.Fipa.{Fipa}
 use Rattle.memory_access.specs.declared.Ipa.{Ipa}
@@ -9,8 +10,6 @@ use Rattle.memory_access.specs.declared.MemoryAccessWidth.TheVariants.{U8, U16, 
 use Rattle.memory_access.specs.declared.MemoryAccessKind.{MemoryAccessKind}
 use Rattle.memory_access.specs.declared.MemoryAccessKind.TheVariants.{Read, Write}
 use Rattle.memory_access.specs.declared.MemoryAccess.{MemoryAccess}
-use Rattle.memory_access.specs.declared.Decoded.{Decoded}
-use Rattle.memory_access.specs.declared.Decoded.TheVariants.{Access, NoSyndrome}
 
 -- "ISV is bit 24": the syndrome is valid
 abbrev pub isv : ℕ → Bool
@@ -68,13 +67,12 @@ access_of iss fipa far = record {
 }
 
 -- "ISV clear refuses"
-unfoldable pub decode_access : ℕ → Fipa → ℕ → Decoded
-decode_access iss fipa far = cond (isv iss) (Access (access_of iss fipa far)) NoSyndrome
+unfoldable pub decode_access : ℕ → Fipa → ℕ → Option MemoryAccess
+decode_access iss fipa far = cond (isv iss) (Some (access_of iss fipa far)) None
 
 -- the number of an answer in document 01's table
-abbrev pub number_of : Decoded → ℕ
-number_of (Access a) = 0
-number_of NoSyndrome = 19
+abbrev pub number_of : Option MemoryAccess → ℕ
+number_of decoded = missing_number 19 decoded
 
 -- a direction as a number: WnR
 abbrev pub kind_number : MemoryAccessKind → ℕ
@@ -86,8 +84,8 @@ abbrev pub flag_number : Bool → ℕ
 flag_number b = cond b 1 0
 
 -- the result fields of an answer: IPA, bits, WnR, Rt, SSE, SF; zeros in a refusal
-abbrev pub values_of : Decoded → List ℕ
-values_of (Access a) =
+abbrev pub values_of : Option MemoryAccess → List ℕ
+values_of (Some a) =
     a.ipa.0
     ∷ bits_of a.width
     ∷ kind_number a.kind
@@ -95,4 +93,4 @@ values_of (Access a) =
     ∷ flag_number a.sign_extend
     ∷ flag_number a.register_width_64
     ∷ []
-values_of NoSyndrome = replicate 6 0
+values_of None = replicate 6 0

@@ -1,9 +1,7 @@
 -- The value that an access moves between its register and memory (document 01, "Access"). Assumes nothing.
-use Rattle.std.specs.Prelude.{Bool, cond, ℕ, suc, ◌+◌, ◌-◌, ◌%◌, ◌^◌, ℤ, pos, negsuc}
+use Rattle.std.specs.Prelude.{Bool, cond, ℕ, suc, ◌+◌, ◌-◌, ◌%◌, ◌^◌, ℤ, pos, negsuc, None, Option, Some}
 use Rattle.bits.specs.Bits.{bit_at, low_bits}
 use Rattle.memory_access.specs.declared.MemoryAccess.{MemoryAccess}
-use Rattle.memory_access.specs.declared.Decoded.{Decoded}
-use Rattle.memory_access.specs.declared.Decoded.TheVariants.{Access, NoSyndrome}
 use Rattle.memory_access.specs.Syndrome.{bits_of}
 
 -- "those bits are read as a two's complement number and extended to 64": the low `w` bits, less 2^w where bit w - 1 is set, modulo 2^64
@@ -27,9 +25,9 @@ unfoldable pub extend_read_result : MemoryAccess → ℕ → ℕ
 extend_read_result a v = at_register_width a.register_width_64 (loaded (bits_of a.width) a.sign_extend v)
 
 -- the same of what was decoded, 0 where the syndrome describes no access
-abbrev pub extended_value : Decoded → ℕ → ℕ
-extended_value (Access a) v = extend_read_result a v
-extended_value NoSyndrome v = 0
+abbrev pub extended_value : Option MemoryAccess → ℕ → ℕ
+extended_value (Some a) v = extend_read_result a v
+extended_value None v = 0
 
 -- "a store of Rt's low bits at the access width"
 unfoldable pub store_value : MemoryAccess → ℕ → ℕ

@@ -2,11 +2,12 @@
 
 #![tactic(auto)]
 
-ghost use Rattle.std.specs.Prelude.{◌≡◌, ◌-◌, ◌^◌};
-ghost use Rattle.memory_access.specs.Syndrome.{isv, sas, sse, srt, sf, wnr, kind_of, width_of, bits_of, fault_ipa, decode_access, kind_number, flag_number, number_of, values_of};
-ghost use Rattle.memory_access.specs.declared.Decoded.TheVariants.{Access};
+ghost use Rattle.std.specs.Prelude.{◌≡◌, ◌-◌, ◌^◌, Some};
+ghost use Rattle.memory_access.specs.Syndrome.{isv, sas, sse, srt, sf, wnr, kind_of, width_of, bits_of, fault_ipa, decode_access, kind_number, number_of, values_of};
 ghost use Rattle.bits.specs.Bits.{low_bits};
 ghost use Rattle.memory_access.specs.Transfer.{sign_extension, loaded, at_register_width, extend_read_result, store_value};
+
+use lists::refusal;
 
 // The faulting page number, as HPFAR_EL2 reports it: it counts pages.
 #[derive(Clone, Copy)]
@@ -69,44 +70,26 @@ pub struct MemoryAccess {
     pub register_width_64: bool,
 }
 
-// What `decode` answers: the access, or that the syndrome holds no access.
-#[derive(Clone, Copy)]
-pub enum Decoded {
-    Access(MemoryAccess),
-    NoSyndrome,
-}
-
-impl Decoded {
-    // The answer's number in the table of refusals.
-    pub fn number(self) -> u64
-        ensures { result ≡ number_of self }
-    {
-        match self {
-            Decoded::Access(_) => 0,
-            Decoded::NoSyndrome => 19,
-        }
-    }
-
-    // The answer's result fields, zeros where there are none: IPA, bits, WnR, Rt, SSE, SF.
-    pub fn values(self) -> [u64; 6]
-        ensures { result ≡ values_of self }
-    {
-        match self {
-            Decoded::Access(access) => access.values(),
-            Decoded::NoSyndrome => [0u64; 6],
-        }
-    }
-}
-
-// A test as a number.
-fn flag(test: bool) -> u64
-    ensures { result ≡ flag_number test }
+// The number of a decoded access in the table of refusals: 19 where the syndrome describes none. (A function, as of each answer with one
+// refusal, so that its contract cites the definition.)
+pub fn decoded_number(decoded: Option<MemoryAccess>) -> u64
+    ensures { result ≡ number_of decoded }
 {
-    if test { 1 } else { 0 }
+    refusal::missing_number(decoded, 19)
+}
+
+// A decoded access as its result fields, zeros where there is none: IPA, bits, WnR, Rt, SSE, SF.
+pub fn decoded_values(decoded: Option<MemoryAccess>) -> [u64; 6]
+    ensures { result ≡ values_of decoded }
+{
+    match decoded {
+        Some(access) => access.values(),
+        None => [0u64; 6],
+    }
 }
 
 impl MemoryAccessKind {
-    // The direction as a number: WnR.
+    // The direction as a number: WnR. (By name: `u64::from` would not say which number it is.)
     fn number(self) -> u64
         ensures { result ≡ kind_number self }
     {
@@ -120,29 +103,29 @@ impl MemoryAccessKind {
 impl MemoryAccess {
     // Its fields as numbers.
     fn values(self) -> [u64; 6]
-        ensures { result ≡ values_of (Access self) }
+        ensures { result ≡ values_of (Some self) }
     {
         let ipa = self.ipa;
         let width = self.width;
         let kind = self.kind;
         [
             ipa.0,
-            width.bits() as u64,
+            u64::from(width.bits()),
             kind.number(),
             self.register_index as u64,
-            flag(self.sign_extend),
-            flag(self.register_width_64),
+            u64::from(self.sign_extend),
+            u64::from(self.register_width_64),
         ]
     }
 
     // Decodes the syndrome of a data abort. Without ISV the syndrome does not describe a register transfer.
-    pub fn decode(iss: u32, fipa: Fipa, far: u64) -> Decoded
+    pub fn decode(iss: u32, fipa: Fipa, far: u64) -> Option<MemoryAccess>
         ensures { result ≡ decode_access iss fipa far }
     {
         if !decode_valid_instruction_syndrome(iss) {
-            return Decoded::NoSyndrome;
+            return None;
         }
-        Decoded::Access(MemoryAccess {
+        Some(MemoryAccess {
             ipa: decode_fault_ipa(fipa, far),
             width: decode_memory_access_width(iss),
             kind: decode_memory_access_kind(iss),

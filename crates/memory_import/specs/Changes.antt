@@ -1,12 +1,11 @@
 -- The calls that change a policy, and lists of them. Assumes nothing.
-use Rattle.std.specs.Prelude.{ℕ, ◌≡◌, List, [], ◌∷◌, ◌++◌}
-use Rattle.stage2_range.specs.declared.Stage2Result.{Stage2Result}
-use Rattle.stage2_range.specs.declared.Stage2Result.TheVariants.{Accepted}
+use Rattle.std.specs.Prelude.{ℕ, ◌≡◌, List, [], ◌∷◌, ◌++◌, Ok, Result, ⊤}
 use Rattle.stage2.specs.declared.Policy.{Policy}
 use Rattle.stage2.specs.declared.Built.{Built}
 use Rattle.stage2.specs.Policy.{release_range}
 use Rattle.stage2.specs.Builds.{BuilderCall, build}
 use Rattle.memory_import.specs.Import.{reading, import_calls, import_memory}
+use Rattle.stage2_range.specs.declared.Stage2ConfigError.{Stage2ConfigError}
 
 -- the calls that add to a policy: document 01's are the builder calls, document 02's Ask 1 adds an import
 pub data PolicyCall : Type 0 where
@@ -49,11 +48,11 @@ all_apart [] = []
 all_apart (c ∷ cs) = taken_apart c ++ all_apart cs
 
 -- what is said of a call before the policy is asked: an import of a slice that the reader refuses is refused
-abbrev pub read_first : PolicyCall → Stage2Result
-read_first (builder c) = Accepted
+abbrev pub read_first : PolicyCall → Result ⊤ Stage2ConfigError
+read_first (builder c) = Ok tt
 read_first (import_devicetree blob attributes) = reading blob
 
 -- every builder call of a list is accepted, each made on the policy that the last one left
 abbrev pub AllBuilt : Policy → List BuilderCall → Type 0
 AllBuilt p [] = Unit {0}
-AllBuilt p (c ∷ cs) = ((build p c).answer ≡ Accepted) × AllBuilt (build p c).policy cs
+AllBuilt p (c ∷ cs) = ((build p c).answer ≡ Ok tt) × AllBuilt (build p c).policy cs

@@ -8,9 +8,10 @@ ghost use Rattle.stage2.specs.Policy.{built_by};
 ghost use Rattle.stage2.specs.Builds.{build_all};
 ghost use Rattle.memory_import.specs.Import.{allow_calls, answer_of_all, import_memory};
 
-use fdt::{Cursor, Memory};
+use fdt::Cursor;
+use fdt_nodes::DevicetreeError;
 use stage2::{Built, Policy};
-use stage2_range::{Stage2ConfigError, Stage2Result};
+use stage2_range::Stage2ConfigError;
 
 // The calls of all pairs from a place on, one by one; where one is refused, its answer and the policy given.
 #[tactic(auto, using(crate::proofs::Laws::pairs_none, crate::proofs::Laws::pair_refused, crate::proofs::Laws::pair_allowed, fdt::proofs::Laws::left_less))]
@@ -19,26 +20,23 @@ fn allow_pairs(policy: Policy, blob: &[u8], first: Cursor, attributes: u64) -> B
 {
     let mut cursor = first;
     let mut next = policy;
-    loop {
-        let pair = fdt::next_pair(blob, cursor);
-        if !pair.found {
-            return Built {
-                answer: Stage2Result::Accepted,
-                policy: next,
-            };
-        }
+    while let Some(pair) = fdt::next_pair(blob, cursor) {
         let built = next.allow_range(pair.base, pair.size, attributes);
         let answer = built.answer;
         match answer {
-            Stage2Result::Refused(error) => {
+            Err(error) => {
                 return Built {
-                    answer: Stage2Result::Refused(error),
+                    answer: Err(error),
                     policy,
                 };
             }
-            Stage2Result::Accepted => next = built.policy,
+            Ok(()) => next = built.policy,
         }
-        cursor = pair.cursor;
+        cursor = pair.after;
+    }
+    Built {
+        answer: Ok(()),
+        policy: next,
     }
 }
 
@@ -49,14 +47,14 @@ pub fn import_memory(policy: Policy, blob: &[u8], attributes: u64) -> Built
     ensures { result ≡ import_memory policy blob.now attributes }
 {
     match fdt::read_memory(blob) {
-        Memory::Invalid => Built {
-            answer: Stage2Result::Refused(Stage2ConfigError::InvalidDevicetree),
+        Err(DevicetreeError::Invalid) => Built {
+            answer: Err(Stage2ConfigError::InvalidDevicetree),
             policy,
         },
-        Memory::UnsupportedCellCounts => Built {
-            answer: Stage2Result::Refused(Stage2ConfigError::UnsupportedCellCounts),
+        Err(DevicetreeError::UnsupportedCellCounts) => Built {
+            answer: Err(Stage2ConfigError::UnsupportedCellCounts),
             policy,
         },
-        Memory::Pairs(cursor) => allow_pairs(policy, blob, cursor, attributes),
+        Ok(cursor) => allow_pairs(policy, blob, cursor, attributes),
     }
 }

@@ -30,30 +30,12 @@ fn say_difference(rt: &impl Print, difference: Difference) -> io::Result<()> {
     println!(rt; " does not: field {field} is {found:#x}, recorded {recorded:#x}")
 }
 
-// Whether the run goes on after such an outcome; where not, says why.
-fn goes_on(rt: &impl Print, outcome: Outcome, agreed: u64) -> io::Result<bool> {
-    match outcome {
-        Outcome::Agrees => Ok(true),
-        Outcome::Differs(difference) => {
-            say_line(rt, agreed)?;
-            say_difference(rt, difference)?;
-            Ok(false)
-        }
-        Outcome::NoRecord => {
-            say_line(rt, agreed)?;
-            println!(rt; " is not a record")?;
-            Ok(false)
-        }
-    }
-}
-
-// A run under way: the library's state, the line that is read, how many records agree, and whether all did.
+// A run under way: the library's state, the line that is read, and how many records agree.
 #[derive(Clone, Copy)]
 struct Run {
     state: State,
     line: Line,
     agreed: u64,
-    goes_on: bool,
 }
 
 // A fresh state, and nothing read.
@@ -62,42 +44,46 @@ fn start() -> Run {
         state: state::fresh(),
         line: Line::empty(),
         agreed: 0,
-        goes_on: true,
     }
 }
 
-// The run after the end of a line.
-fn end_line(rt: &impl Print, run: Run) -> io::Result<Run> {
-    let state = run.state;
-    let line = run.line;
-    let record = line.record();
-    let taken = state::take(state, record, record.call());
-    let state = taken.state;
-    let compared = taken.compared;
-    Ok(Run {
-        state,
-        line: Line::empty(),
-        agreed: run.agreed.wrapping_add(1),
-        goes_on: goes_on(rt, compared.outcome(), run.agreed)?,
-    })
+// The run after the end of a line, if its record agrees; where it does not, says why.
+fn end_line(rt: &impl Print, run: Run) -> io::Result<Option<Run>> {
+    let record = run.line.record();
+    let taken = state::take(run.state, record, record.call());
+    match taken.compared.outcome() {
+        Outcome::Agrees => Ok(Some(Run {
+            state: taken.state,
+            line: Line::empty(),
+            agreed: run.agreed.wrapping_add(1),
+        })),
+        Outcome::Differs(difference) => {
+            say_line(rt, run.agreed)?;
+            say_difference(rt, difference)?;
+            Ok(None)
+        }
+        Outcome::NoRecord => {
+            say_line(rt, run.agreed)?;
+            println!(rt; " is not a record")?;
+            Ok(None)
+        }
+    }
 }
 
-// The run after this part of the text, and no further than the first record that does not agree.
-fn read_text(rt: &impl Print, run: Run, text: &[u8]) -> io::Result<Run> {
+// The run after this part of the text, unless it ends at a record that does not agree.
+fn read_text(rt: &impl Print, run: Run, text: &[u8]) -> io::Result<Option<Run>> {
     let mut run = run;
     for byte in text {
         if *byte == b'\n' {
-            run = end_line(rt, run)?;
-            if !run.goes_on {
-                return Ok(run);
-            }
+            let Some(next) = end_line(rt, run)? else {
+                return Ok(None);
+            };
+            run = next;
         } else {
-            let line = run.line;
-            let next = line.with_byte(*byte);
-            run.line = next;
+            run.line = run.line.with_byte(*byte);
         }
     }
-    Ok(run)
+    Ok(Some(run))
 }
 
 // How much of the text is read at once.
@@ -116,10 +102,10 @@ fn main(rt: HostRuntime) -> io::Result<()> {
         if n == 0 {
             return say_agreed(&rt, run.agreed);
         }
-        run = read_text(&rt, run, &text)?;
-        if !run.goes_on {
+        let Some(next) = read_text(&rt, run, &text)? else {
             return Ok(());
-        }
+        };
+        run = next;
     }
     println!(rt; "input too long")
 }

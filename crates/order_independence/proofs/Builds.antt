@@ -12,7 +12,6 @@ use lib.ListN.{length}
 use Rattle.lists.specs.Sorting.{insert_by, sort_by}
 use Rattle.lists.proofs.Laws.{length_insert, insert_end, inserted_all}
 use Rattle.lists.proofs.Sorting.{perm_member, insertion_all, insert_comm, sort_append, sort_perm, sort_length}
-use Rattle.stage2_range.specs.declared.Stage2Result.TheVariants.{Accepted}
 use Rattle.stage2_range.specs.declared.PageRange.{PageRange}
 use Rattle.stage2_range.specs.declared.Stage2Range.{Stage2Range}
 use Rattle.stage2_range.specs.declared.MemoryAccessRegion.{MemoryAccessRegion}
@@ -30,6 +29,7 @@ use Rattle.order_independence.specs.Builds.{accepts, accepted, AllAccepted, Same
 use Rattle.stage2.proofs.Laws.{allow_accepted, can_allow, handle_accepted, can_handle}
 use Rattle.stage2.proofs.WellFormed.{build_keeps}
 use Rattle.stage2.proofs.Held.{allowed_length, regions-length, allow_holds, handle_holds}
+use Rattle.std.specs.Prelude.{Ok}
 
 -- what equal policies have in common: the allowed ranges sorted by base, and the regions
 pub record View : Type 0 where
@@ -104,7 +104,7 @@ module _ (p : Policy) (w : WellFormed p) where
   ranges-length = sort_length range_base (allowed_held p) ∙ allowed_length p w
 
   -- a call that is accepted fits
-  pub accepted-fits : (c : BuilderCall) → (build p c).answer ≡ Accepted → Fits (view p) c
+  pub accepted-fits : (c : BuilderCall) → (build p c).answer ≡ Ok tt → Fits (view p) c
   accepted-fits (allow base size attributes) h =
       let k = allow_accepted p base size attributes h in
       let clear = apart_clear p (page_range base size) k.apart in
@@ -115,7 +115,7 @@ module _ (p : Policy) (w : WellFormed p) where
       record { known = k.handlers; valid = k.fits; room = omega (arith, k.room, regions-length p w); clear = clear }
 
   -- a call that fits is accepted, and its record is held
-  pub fits-accepted : (c : BuilderCall) → Fits (view p) c → ((build p c).answer ≡ Accepted) × (view (build p c).policy ≡ put (view p) c)
+  pub fits-accepted : (c : BuilderCall) → Fits (view p) c → ((build p c).answer ≡ Ok tt) × (view (build p c).policy ≡ put (view p) c)
   fits-accepted (allow base size attributes) f =
       let r : Stage2Range = range_of base size attributes in
       let room : p.allowed_count < 32 = omega (arith, f.room, ranges-length) in

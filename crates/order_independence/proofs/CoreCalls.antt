@@ -10,9 +10,6 @@ use lib.Dec.{ltb}
 use lib.Seq.{get_or-set_same, get_or-set_other}
 use Rattle.stage2_range.specs.declared.MemoryAccessRegion.{MemoryAccessRegion}
 use Rattle.stage2.specs.Policy.{regions_held}
-use Rattle.simple_map.specs.declared.Lookup.{Lookup}
-use Rattle.simple_map.specs.declared.Lookup.TheVariants.{Nothing, Value}
-use Rattle.simple_map.specs.declared.Insertion.TheVariants.{Accepted}
 use Rattle.simple_map.specs.Map.{get_item, remove_item}
 use Rattle.simple_map.specs.Keys.{KeysDiffer, HoldsKeys}
 use Rattle.simple_map.proofs.Keys.{get_removed_other, get_inserted_other, remove_holds, get_removed, insert_accepted, insert_holds, get_inserted}
@@ -31,11 +28,13 @@ use Rattle.order_independence.specs.Steps.{is_own, Named}
 use Rattle.order_independence.specs.OrderIndependence.{Sound}
 use Rattle.order_independence.proofs.Mixing.{Acted, System, Laws}
 use Rattle.order_independence.proofs.Waiting.{call_places}
+use Rattle.std.specs.Prelude.{None, Ok, Option, Some}
+use Rattle.simple_map.specs.declared.SuspendCoreData.{SuspendCoreData}
 
 -- what a core sees of the state
 pub record Part : Type 0 where
   pub core : Core
-  pub entry : Lookup
+  pub entry : Option SuspendCoreData
 
 -- a core step leaves the policy
 pub core_policy : (s : State) (c : CoreCall) → (core_called s c).state.policy ≡ s.policy
@@ -87,10 +86,10 @@ module _ (key : ℕ → ℕ) (regions : List MemoryAccessRegion) where
       let w = write_gpr l.core index value in
       record { answer = written w.answer; part = record { core = w.core; entry = l.entry }; counter = counter }
   act (insert k value) l counter =
-      record { answer = inserted Accepted; part = record { core = l.core; entry = Value value }; counter = counter }
+      record { answer = inserted (Ok tt); part = record { core = l.core; entry = Some value }; counter = counter }
   act (get k) l counter = record { answer = looked_up l.entry; part = l; counter = counter }
   act (remove k) l counter =
-      record { answer = looked_up l.entry; part = record { core = l.core; entry = Nothing }; counter = counter }
+      record { answer = looked_up l.entry; part = record { core = l.core; entry = None }; counter = counter }
 
   abbrev pub core_system : System
   core_system = record {

@@ -34,6 +34,7 @@ use Rattle.hypervisor.specs.Cores.{trap_on, trap_cases}
 use Rattle.order_independence.specs.CounterWord.{LoadsCounterWord}
 use Rattle.hypervisor.proofs.Counter.{counter_read, StepLoads, step_loads, step_steady}
 use Rattle.hypervisor.proofs.Refusals.{trap_number_lem}
+use Rattle.std.specs.Prelude.{Err, Ok}
 
 -- The trap of one of the eight cores, in document 01's words.
 module _ (policy : Policy) (cores : List Core) (counter i : ℕ) (trap : TrapRegisters) where
@@ -71,7 +72,7 @@ module _ (policy : Policy) (cores : List Core) (counter i : ℕ) (trap : TrapReg
   pub word-loaded : WellFormed policy → LoadsCounterWord policy cores counter i trap
       → trap_on policy cores counter i trap
       ≡ record {
-        result = without_values (AccessHandled Read);
+        result = without_values (Ok (AccessHandled Read));
         policy = policy;
         cores = set cores i (counter_read core counter trap);
         counter = (counter + 1) % 2 ^ 64;

@@ -5,7 +5,6 @@ use mathlib.Core.Path.{◌≡◌, refl, sym, ◌∙◌, ap, subst}
 use mathlib.Core.List.Memᴰ
 use mathlib.Core.List.{List, [], ◌∷◌, Permᴰ}
 use native.Mathlib.Omega.{arith}
-use Rattle.stage2_range.specs.declared.Stage2Result.TheVariants.{Accepted}
 use Rattle.stage2.specs.Policy.{fresh_policy}
 use Rattle.stage2.specs.Builds.{BuilderCall, allow}
 use Rattle.stage2.proofs.Opened as stage2
@@ -17,6 +16,7 @@ use Rattle.order_independence.specs.Builds.{accepted}
 use Rattle.order_independence.specs.Calls.{fresh_state, after_changes}
 use Rattle.order_independence.specs.OrderIndependence.{Reordered, Separate, Found}
 use Rattle.order_independence.proofs.OrderIndependence.{order_independent}
+use Rattle.std.specs.Prelude.{Ok}
 
 abbrev key : ℕ → ℕ
 key i = 100 + i
@@ -41,7 +41,7 @@ pub board_calls : import_calls dtc 0x7FD ≡ first ∷ second ∷ third ∷ []
 unfolding import_calls
 board_calls = ap (λ said. allow_calls 0x7FD (pairs_in said)) dtc_answer
 
-pub board_accepted : (import_memory fresh_policy dtc 0x7FD).answer ≡ Accepted
+pub board_accepted : (import_memory fresh_policy dtc 0x7FD).answer ≡ Ok tt
 unfolding stage2.opened
 board_accepted = ap (λ b. b.answer) (import_said fresh_policy dtc 0x7FD ∙ ap (λ said. import_by said fresh_policy 0x7FD) dtc_answer)
 

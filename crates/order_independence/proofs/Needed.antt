@@ -7,8 +7,7 @@ use lib.ListN.{length, get_or}
 use Rattle.stage2.specs.Builds.{allow, handle}
 use Rattle.memory_import.specs.Changes.{builder}
 use Rattle.simple_map.specs.declared.SuspendCoreData.{SuspendCoreData}
-use Rattle.simple_map.specs.declared.Insertion.TheVariants.{Accepted, CapacityExceeded}
-use Rattle.simple_map.specs.Map.{get_item, lookup_values}
+use Rattle.simple_map.specs.Map.{get_item, lookup_values, capacity_exceeded}
 use Rattle.exceptions.specs.Registers.{core_of}
 use Rattle.data_abort.specs.declared.TrapRegisters.{TrapRegisters}
 use Rattle.simple_map.proofs.Opened as simple-map
@@ -18,6 +17,7 @@ use Rattle.order_independence.specs.Steps.{is_own}
 use Rattle.order_independence.specs.OrderIndependence.{Same}
 use Rattle.order_independence.specs.Phases.{Phase, adding, releasing, answers_over}
 use Rattle.order_independence.specs.AnyCalls.{phase}
+use Rattle.std.specs.Prelude.{Err, Ok}
 
 -- a state with the filtered MMIO page, and a 64-bit load of its word at 16 into x5
 abbrev pub page : State
@@ -58,8 +58,8 @@ inserts keys = map (λ k. insert k (record { entry_point = 0; context_id = 0 }))
 abbrev pub key_8 : List CoreCall → List Answer
 key_8 steps = answers_to (is_own (λ i. i) 8) fresh_state steps
 
-pub ninth_key : (key_8 (inserts (0 ∷ 1 ∷ 2 ∷ 3 ∷ 4 ∷ 5 ∷ 6 ∷ 7 ∷ 8 ∷ [])) ≡ inserted CapacityExceeded ∷ [])
-    × (key_8 (inserts (8 ∷ 0 ∷ 1 ∷ 2 ∷ 3 ∷ 4 ∷ 5 ∷ 6 ∷ 7 ∷ [])) ≡ inserted Accepted ∷ [])
+pub ninth_key : (key_8 (inserts (0 ∷ 1 ∷ 2 ∷ 3 ∷ 4 ∷ 5 ∷ 6 ∷ 7 ∷ 8 ∷ [])) ≡ inserted (Err capacity_exceeded) ∷ [])
+    × (key_8 (inserts (8 ∷ 0 ∷ 1 ∷ 2 ∷ 3 ∷ 4 ∷ 5 ∷ 6 ∷ 7 ∷ [])) ≡ inserted (Ok tt) ∷ [])
 unfolding simple-map.opened fresh_state
 ninth_key = (refl, refl)
 
@@ -98,7 +98,7 @@ nine last = phase (adding []) (inserts (0 ∷ 1 ∷ 2 ∷ 3 ∷ 4 ∷ 5 ∷ 6 �
 abbrev key_8_over : List Phase → List Answer
 key_8_over run = answers_over (is_own (λ i. i) 8) fresh_state run
 
-pub keys_over_phases : (key_8_over (nine (inserts (7 ∷ 8 ∷ []))) ≡ inserted CapacityExceeded ∷ [])
-    × (key_8_over (nine (inserts (8 ∷ 7 ∷ []))) ≡ inserted Accepted ∷ [])
+pub keys_over_phases : (key_8_over (nine (inserts (7 ∷ 8 ∷ []))) ≡ inserted (Err capacity_exceeded) ∷ [])
+    × (key_8_over (nine (inserts (8 ∷ 7 ∷ []))) ≡ inserted (Ok tt) ∷ [])
 unfolding simple-map.opened fresh_state
 keys_over_phases = (refl, refl)

@@ -10,8 +10,6 @@ use Rattle.lists.specs.Refusals.{case}
 use Rattle.lists.proofs.Sorting.{any_perm, sort_perm}
 use Rattle.lists.proofs.Removal.{sorted_without}
 use Rattle.stage2_range.specs.declared.Stage2ConfigError.TheVariants.{RangeNotHeld}
-use Rattle.stage2_range.specs.declared.Stage2Result.{Stage2Result}
-use Rattle.stage2_range.specs.declared.Stage2Result.TheVariants.{Accepted, Refused}
 use Rattle.stage2_range.specs.Ranges.{after, answer_of, validate_range, range_bytes, is_range}
 use Rattle.stage2_range.specs.Registry.{is_region}
 use Rattle.stage2.specs.declared.Policy.{Policy}
@@ -21,16 +19,18 @@ use Rattle.stage2.proofs.Release.{release_answer_lem, release_splits, where_vali
 use Rattle.stage2.proofs.Freed.{alone}
 use Rattle.order_independence.specs.Builds.{SamePolicy}
 use Rattle.order_independence.proofs.Builds.{range_base}
+use Rattle.std.specs.Prelude.{Err, Ok, Result, ⊤}
+use Rattle.stage2_range.specs.declared.Stage2ConfigError.{Stage2ConfigError}
 
 -- the ranges held after a release, sorted, are those held before, sorted, without the match
 sorted_after : (p : Policy) (base size : ℕ) → WellFormed p
     → sort_by range_base (allowed_after base size (allowed_held p)) ≡ allowed_after base size (sort_by range_base (allowed_held p))
 sorted_after p base size w = go (validate_range base size)
   where
-    go : (v : Stage2Result) → sort_by range_base (where_valid v (without_first (is_range base size) (allowed_held p)) (allowed_held p))
+    go : (v : Result ⊤ Stage2ConfigError) → sort_by range_base (where_valid v (without_first (is_range base size) (allowed_held p)) (allowed_held p))
         ≡ where_valid v (without_first (is_range base size) (sort_by range_base (allowed_held p))) (sort_by range_base (allowed_held p))
-    go Accepted = sorted_without range_base (is_range base size) (allowed_held p) (alone _ range_bytes base size (allowed_held p) w.allowed_disjoint)
-    go (Refused e) = refl
+    go (Ok tt) = sorted_without range_base (is_range base size) (allowed_held p) (alone _ range_bytes base size (allowed_held p) w.allowed_disjoint)
+    go (Err e) = refl
 
 module _ (p q : Policy) (w : WellFormed p) (w' : WellFormed q) (same : SamePolicy p q) (base size : ℕ) where
   -- both hold such a range, or neither

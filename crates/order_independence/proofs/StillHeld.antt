@@ -13,7 +13,6 @@ use Rattle.lists.specs.Lists.{held, any_of, without_first, insert_before}
 use Rattle.lists.proofs.Laws.{FirstFit, first_or_none, both_true, insert_end, inserted_all, none_any, any_none, any_member}
 use Rattle.lists.proofs.Sorting.{insertion_all}
 use Rattle.lists.proofs.Removal.{any_first, without_parts, without_first_lem, without_inserted}
-use Rattle.stage2_range.specs.declared.Stage2Result.TheVariants.{Accepted}
 use Rattle.stage2_range.specs.declared.Stage2Range.{Stage2Range}
 use Rattle.stage2_range.specs.declared.MemoryAccessRegion.{MemoryAccessRegion}
 use Rattle.stage2_range.specs.Ranges.{ValidRange, page_range, range_of, range_bytes, is_range, result_number}
@@ -33,6 +32,7 @@ use Rattle.memory_import.proofs.Changes.{build-append, all_parts, accepted_apart
 use Rattle.order_independence.specs.Builds.{SamePolicy}
 use Rattle.order_independence.specs.StillHeld.{accepts_change, asks_for, kept_by, held_from, still_held, BuiltAfresh, FromFresh}
 use Rattle.order_independence.proofs.Builds.{built_order}
+use Rattle.std.specs.Prelude.{Ok}
 
 -- one accepted list of builder calls after another
 all_append : (a b : List BuilderCall) (p : Policy) → AllBuilt p a → AllBuilt (build_all p a) b → AllBuilt p (a ++ b)
@@ -89,7 +89,7 @@ other_calls (c ∷ cs) p base size w h others none =
     other_calls cs (build p c).policy base size (build_keeps p c w) h.1 (λ d m. others d (Memᴰ.tail m))
     (go c h.0 (others c (Memᴰ.head refl)))
   where
-    go : (d : BuilderCall) → (build p d).answer ≡ Accepted → asks_for base size d ≡ false → NoMatch (build p d).policy base size
+    go : (d : BuilderCall) → (build p d).answer ≡ Ok tt → asks_for base size d ≡ false → NoMatch (build p d).policy base size
     go (allow b s a) k e =
         let g = allow_holds p w b s a k in
         rw (g.0, g.1) (inserted_all (λ r. is_range base size r ≡ false) (λ x. false) (range_of b s a) (allowed_held p) e none.0, none.1)
@@ -136,7 +136,7 @@ module _ (p : Policy) (calls : List BuilderCall) (base size : ℕ) (w : WellForm
     rest-accepted : AllBuilt fresh_policy rest
     rest-accepted = (all_parts rest (c ∷ []) fresh_policy last_again.0).0
 
-    last_accepted : (build less c).answer ≡ Accepted
+    last_accepted : (build less c).answer ≡ Ok tt
     last_accepted = (all_parts rest (c ∷ []) fresh_policy last_again.0).1.0
 
     less_well_formed : WellFormed less
@@ -284,7 +284,7 @@ added_afresh (c ∷ cs) p calls w afresh all =
 
 -- one call more, accepted
 kept_afresh : (p : Policy) (calls : List BuilderCall) (c : PolicyChange) → WellFormed p → BuiltAfresh p calls
-    → (change_by p c).answer ≡ Accepted → BuiltAfresh (change_by p c).policy (kept_by calls c)
+    → (change_by p c).answer ≡ Ok tt → BuiltAfresh (change_by p c).policy (kept_by calls c)
 kept_afresh p calls (add c) w afresh h =
     let a = accepted_apart p c h in
     rw a.1 (added_afresh (taken_apart c) p calls w afresh a.0)

@@ -13,8 +13,7 @@ use Rattle.forwarded_call.specs.declared.HvcReply.{HvcReply}
 use Rattle.forwarded_call.specs.ForwardedCall.{waits, reply_core}
 use Rattle.forwarded_call.proofs.Laws.{reply-done}
 use Rattle.exceptions.specs.declared.Core.{Core}
-use Rattle.exceptions.specs.declared.Wait.{Wait}
-use Rattle.exceptions.specs.declared.Wait.TheVariants.{Nothing, Call}
+use Rattle.exceptions.specs.Registers.{Wait}
 use Rattle.exceptions.specs.Registers.{fresh_core, write_gpr, core_of}
 use Rattle.exceptions.proofs.Laws.{write_wait}
 use Rattle.data_abort.specs.declared.TrapRegisters.{TrapRegisters}
@@ -26,6 +25,7 @@ use Rattle.hypervisor.specs.Cores.{fresh_cores, save_core, on_core, save_on, rep
 use Rattle.order_independence.specs.Calls.{State, fresh_state, HostCall, change, core_call, release_of, GprForm, save, trap, reply, gpr_write, insert, get, remove, call, call_all, wait_of, outstanding_after, outstanding}
 use Rattle.hypervisor.proofs.Waiting.{save_wait, trap_waits}
 use Rattle.hypervisor.proofs.Steps.{trap_step, trap_others, trap_places, core_step, core_others, core_places}
+use Rattle.std.specs.Prelude.{None, Some}
 
 -- One call, seen from core `i`: its own steps do this to its wait, and all others leave it.
 module _ (s : State) (i : ℕ) (within : i ≤ 7) (places : length s.cores ≡ 8) where
@@ -108,7 +108,7 @@ waits_all : (s : State) (i : ℕ) → i ≤ 7 → length s.cores ≡ 8 → (call
 waits_all s i h n [] = refl
 waits_all s i h n (c ∷ cs) = rw (← waits-after s i h n c) (waits_all (call s c).state i h (call_places s c ∙ n) cs)
 
-fresh_idle : (n i : ℕ) → (core_of (replicate n fresh_core) i).wait ≡ Nothing
+fresh_idle : (n i : ℕ) → (core_of (replicate n fresh_core) i).wait ≡ None
 unfolding fresh_core
 fresh_idle zero i = refl
 fresh_idle (suc n) zero = refl
@@ -123,6 +123,6 @@ wait_outstanding calls i h =
     ∙ ap (λ (b : Bool). outstanding fresh_state i b calls) (ap waits (fresh_idle 8 i))
 
 -- a core that does not wait has nothing to wait for
-pub idle_nothing : (w : Wait) → waits w ≡ false → w ≡ Nothing
-idle_nothing Nothing h = refl
-idle_nothing (Call conduit recipient) h = absurd (true≢false h)
+pub idle_nothing : (w : Wait) → waits w ≡ false → w ≡ None
+idle_nothing None h = refl
+idle_nothing (Some (conduit, recipient)) h = absurd (true≢false h)

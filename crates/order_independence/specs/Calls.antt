@@ -1,26 +1,25 @@
 -- The host's calls as one, over the whole state. Assumes nothing.
-use Rattle.std.specs.Prelude.{ℕ, ◌≡◌, Bool, true, false, ◌&&◌, cond, eqb, set}
+use Rattle.std.specs.Prelude.{ℕ, ◌≡◌, Bool, true, false, ◌&&◌, cond, eqb, set, Option, Result, ⊤}
 use mathlib.Core.List.{List, [], ◌∷◌, foldl, Memᴰ}
-use Rattle.stage2_range.specs.declared.Stage2Result.{Stage2Result}
 use Rattle.stage2_range.specs.Ranges.{result_number}
 use Rattle.stage2.specs.declared.Policy.{Policy}
 use Rattle.stage2.specs.Policy.{fresh_policy, release_range}
 use Rattle.memory_import.specs.Changes as changes
 use Rattle.simple_map.specs.declared.SimpleMap.{SimpleMap}
 use Rattle.simple_map.specs.declared.SuspendCoreData.{SuspendCoreData}
-use Rattle.simple_map.specs.declared.Insertion.{Insertion}
-use Rattle.simple_map.specs.declared.Lookup.{Lookup}
 use Rattle.simple_map.specs.Map.{empty_map, get_item, remove_item, insert_item, insert_number, lookup_values}
 use Rattle.exceptions.specs.declared.Core.{Core}
-use Rattle.exceptions.specs.declared.GprWrite.{GprWrite}
-use Rattle.exceptions.specs.declared.Wait.{Wait}
+use Rattle.exceptions.specs.Registers.{Wait}
 use Rattle.exceptions.specs.Registers.{write_gpr, write_number, core_of}
 use Rattle.data_abort.specs.declared.TrapRegisters.{TrapRegisters}
 use Rattle.forwarded_call.specs.declared.HvcReply.{HvcReply}
-use Rattle.core_answers.specs.declared.CoreAnswer.{CoreAnswer}
 use Rattle.core_answers.specs.declared.TrapResult.{TrapResult}
 use Rattle.core_answers.specs.Answers.{core_number, trap_number, result_words, is_forwarded}
 use Rattle.hypervisor.specs.Cores.{fresh_cores, save_on, reply_on, trap_on}
+use Rattle.core_answers.specs.declared.CoreError.{CoreError}
+use Rattle.exceptions.specs.declared.GuestRegisterWriteError.{GuestRegisterWriteError}
+use Rattle.simple_map.specs.declared.CapacityExceeded.{CapacityExceeded}
+use Rattle.stage2_range.specs.declared.Stage2ConfigError.{Stage2ConfigError}
 
 -- the state that calls are given and hand back
 pub record State : Type 0 where
@@ -57,12 +56,12 @@ pub data HostCall : Type 0 where
 
 -- what a call answers, with every result field beside the state
 pub data Answer : Type 0 where
-  changed : Stage2Result → Answer
-  stepped : CoreAnswer → Answer
+  changed : Result ⊤ Stage2ConfigError → Answer
+  stepped : Result ⊤ CoreError → Answer
   trapped : TrapResult → Answer
-  written : GprWrite → Answer
-  inserted : Insertion → Answer
-  looked_up : Lookup → Answer
+  written : Result ⊤ GuestRegisterWriteError → Answer
+  inserted : Result ⊤ CapacityExceeded → Answer
+  looked_up : Option SuspendCoreData → Answer
 
 -- its number in document 01's table: 0 where it is no refusal
 abbrev pub answer_number : Answer → ℕ

@@ -1,13 +1,11 @@
 // The records of calls without state: b to e.
-ghost use Rattle.std.specs.Prelude.{◌≡◌};
-ghost use mathlib.Core.List.{foldl};
+ghost use Rattle.std.specs.Prelude.{◌≡◌, fold};
 ghost use Rattle.records.specs.Records.{expected};
 ghost use Rattle.memory_access.specs.Transfer.{extended_value};
 ghost use Rattle.recorded_calls.specs.Values.{iss_compared, decoded_words, extended_words, aligned_words, value_compared};
 
-use memory_access::{Decoded, Fipa, MemoryAccess};
+use memory_access::{Fipa, MemoryAccess};
 use records::{Call, Record};
-use stage2_range::AlignedUp;
 
 // Makes the record's call; a record of something else passes as it is.
 #[tactic(auto, unfolding(crate::specs::Values::value_compared))]
@@ -29,41 +27,40 @@ pub fn take(recorded: Record, call: Call) -> Record
 fn decode(recorded: Record, iss: u64, fipa: u64, far: u64) -> Record
     ensures { result ≡ iss_compared (decoded_words fipa far) recorded iss }
 {
-    if 0xFFFF_FFFF < iss {
+    let Ok(iss) = u32::try_from(iss) else {
         return recorded.no_record();
-    }
-    let decoded = MemoryAccess::decode(iss as u32, Fipa(fipa), far);
+    };
+    let decoded = MemoryAccess::decode(iss, Fipa(fipa), far);
     recorded
-        .expect(decoded.number())
-        .expect_all(&decoded.values())
+        .expect(memory_access::decoded_number(decoded))
+        .expect_all(&memory_access::decoded_values(decoded))
 }
 
 // iss value | number value
 fn extend(recorded: Record, iss: u64, value: u64) -> Record
     ensures { result ≡ iss_compared (extended_words value) recorded iss }
 {
-    if 0xFFFF_FFFF < iss {
+    let Ok(iss) = u32::try_from(iss) else {
         return recorded.no_record();
-    }
-    let decoded = MemoryAccess::decode(iss as u32, Fipa(0), 0);
+    };
+    let decoded = MemoryAccess::decode(iss, Fipa(0), 0);
     recorded
-        .expect(decoded.number())
+        .expect(memory_access::decoded_number(decoded))
         .expect(extended(decoded, value))
 }
 
 // What the load puts into its register, 0 where the syndrome describes none.
-fn extended(decoded: Decoded, value: u64) -> u64
+fn extended(decoded: Option<MemoryAccess>, value: u64) -> u64
     ensures { result ≡ extended_value decoded value }
 {
-    match decoded {
-        Decoded::Access(access) => access.extend_read_result(value),
-        Decoded::NoSyndrome => 0,
-    }
+    decoded.map_or(0, |access| access.extend_read_result(value))
 }
 
 // address | number value
-fn aligned(recorded: Record, aligned: AlignedUp) -> Record
-    ensures { result ≡ foldl expected recorded (aligned_words aligned) }
+fn aligned(recorded: Record, aligned: Option<u64>) -> Record
+    ensures { result ≡ fold expected recorded (aligned_words aligned) }
 {
-    recorded.expect(aligned.number()).expect(aligned.value())
+    recorded
+        .expect(stage2_range::aligned_number(aligned))
+        .expect(stage2_range::aligned_value(aligned))
 }

@@ -3,24 +3,24 @@
 
 #![tactic(auto)]
 
-ghost use Rattle.std.specs.Prelude.{◌≡◌, ◌<◌, length, take, drop};
-ghost use mathlib.Core.List.{foldl};
-ghost use Rattle.records.specs.Lines.{digit_of, empty_line, malformed, with_space, with_digit, with_byte};
+ghost use Rattle.std.specs.Prelude.{◌≡◌, ◌+◌, ◌<◌, ◌≤◌, length, take, drop, fold};
+ghost use Rattle.records.specs.Lines.{digit_of, empty_line, malformed, with_space, one_digit_longer, with_digit, with_byte};
 ghost use Rattle.records.specs.Records.{answer_place, field_count, record_of, call_of, no_record, first_difference, expected, outcome_of};
 
 // The most fields that a record has: a core's.
 pub const MAX_FIELDS: usize = 39;
 
 // A line as far as it is read: its numbers, zeros after them, the place of the one that is read, from 0 on, and whether that has a digit.
-// A line that is no list of numbers is at the place past the last.
+// A line that is no list of numbers has no such place. (`begun` beside the numbers: the one that is read stands among them, with the
+// digits so far.)
 #[derive(Clone, Copy)]
 pub struct Line {
     pub fields: [u64; MAX_FIELDS],
-    pub place: usize,
+    pub place: Option<usize>,
     pub begun: bool,
 }
 
-// The first field that is not as it was recorded, by its number in the line, from 1 on; 0 where there is none.
+// A field that is not as it was recorded, by its number in the line, from 1 on.
 #[derive(Clone, Copy)]
 pub struct Difference {
     pub field: u64,
@@ -28,16 +28,19 @@ pub struct Difference {
     pub recorded: u64,
 }
 
-// A line's fields and how many they are, the place of the answer's word that is compared next, and the first difference so far.
+// A line's fields and how many they are, the place of the answer's word that is compared next, and the first difference so far. A line that
+// is no list of numbers has no count, and the answer to a line that stands for no call has no next word. (An array and a count: a record has at most so
+// many fields, and there is no heap.)
 #[derive(Clone, Copy)]
 pub struct Record {
     pub fields: [u64; MAX_FIELDS],
-    pub count: usize,
-    pub next: usize,
-    pub difference: Difference,
+    pub count: Option<usize>,
+    pub next: Option<usize>,
+    pub difference: Option<Difference>,
 }
 
-// A record's code and the five fields after it: its call's arguments, as far as it has them.
+// A record's code and the five fields after it: its call's arguments, as far as it has them. (The code is a number: what it names is for
+// each of the crates above to say.)
 #[derive(Clone, Copy)]
 pub struct Call {
     pub code: u64,
@@ -48,12 +51,19 @@ pub struct Call {
     pub e: u64,
 }
 
-// What comes of a record.
+// What comes of a record. (Three verdicts, each of them reported: no `Result`, since none is an error that a caller would pass on.)
 #[derive(Clone, Copy)]
 pub enum Outcome {
     Agrees,
     Differs(Difference),
     NoRecord,
+}
+
+// A record with its answer compared, and the state that its call left.
+#[derive(Clone, Copy)]
+pub struct Taken<S> {
+    pub compared: Record,
+    pub state: S,
 }
 
 impl Line {
@@ -63,23 +73,26 @@ impl Line {
     {
         Line {
             fields: [0u64; MAX_FIELDS],
-            place: 0,
+            place: Some(0),
             begun: false,
         }
     }
 
-    // The line with one byte more.
+    // The line with one byte more. One that has no place for a number stays as it is.
     #[tactic(auto, unfolding(crate::specs::Lines::with_byte))]
     pub fn with_byte(self, byte: u8) -> Self
         ensures { result ≡ with_byte self byte }
     {
-        if MAX_FIELDS <= self.place {
-            return self;
+        match self.place {
+            Some(place) if place < MAX_FIELDS => {
+                if byte == b' ' {
+                    with_space(self, place)
+                } else {
+                    with_digit(self, place, byte)
+                }
+            }
+            _ => self,
         }
-        if byte == b' ' {
-            return with_space(self);
-        }
-        with_digit(self, digit(byte))
     }
 
     // The record that the line holds, with nothing compared.
@@ -92,105 +105,96 @@ impl Line {
             fields,
             count: field_count(self),
             next: answer_place(fields[0]),
-            difference: Difference {
-                field: 0,
-                found: 0,
-                recorded: 0,
-            },
+            difference: None,
         }
     }
 }
 
 // A line that is no list of numbers.
-fn no_numbers(line: Line) -> Line
+fn malformed(line: Line) -> Line
     ensures { result ≡ malformed line }
 {
-    let fields = line.fields;
     Line {
-        fields,
-        place: MAX_FIELDS,
+        place: None,
         begun: false,
+        ..line
     }
 }
 
 // The next number begins, unless the one before has no digit.
 #[tactic(auto, unfolding(crate::specs::Lines::with_space))]
-fn with_space(line: Line) -> Line
-    requires { line.place < 39 }
-    ensures { result ≡ with_space line }
+fn with_space(line: Line, place: usize) -> Line
+    requires { place < 39 }
+    ensures { result ≡ with_space line place }
 {
     if !line.begun {
-        return no_numbers(line);
+        return malformed(line);
     }
-    let fields = line.fields;
     Line {
-        fields,
-        place: line.place + 1,
+        place: Some(place + 1),
         begun: false,
+        ..line
     }
 }
 
-// The value of a digit, and 16 for any other byte.
+// The value of a digit. (The library's `to_digit` takes upper-case letters too.)
 #[tactic(auto, unfolding(crate::specs::Lines::digit_of))]
-fn digit(byte: u8) -> u64
+fn digit(byte: u8) -> Option<u64>
     ensures { result ≡ digit_of byte }
 {
     match byte {
-        b'0'..=b'9' => (byte - b'0') as u64,
-        b'a'..=b'f' => (byte - b'a') as u64 + 10,
-        _ => 16,
+        b'0'..=b'9' => Some((byte - b'0') as u64),
+        b'a'..=b'f' => Some((byte - b'a') as u64 + 10),
+        _ => None,
     }
 }
 
 // The number that is read has one digit more, if that is a number of 64 bits.
 #[tactic(auto, unfolding(crate::specs::Lines::with_digit))]
-fn with_digit(line: Line, digit: u64) -> Line
-    requires { line.place < 39 }
-    ensures { result ≡ with_digit line digit }
+fn with_digit(line: Line, place: usize, byte: u8) -> Line
+    requires { place < 39 }
+    ensures { result ≡ with_digit line place (digit_of byte) }
 {
-    let place = line.place;
     let mut fields = line.fields;
-    let value = fields[place];
-    if 15 < digit {
-        return no_numbers(line);
-    }
-    if 0x0FFF_FFFF_FFFF_FFFF < value {
-        return no_numbers(line);
-    }
-    fields[place] = value * 16 + digit;
+    let Some(longer) = one_digit_longer(fields[place], byte) else {
+        return malformed(line);
+    };
+    fields[place] = longer;
     Line {
         fields,
-        place,
+        place: Some(place),
         begun: true,
     }
 }
 
-// How many numbers the line has: none where it is no list of numbers.
-#[tactic(auto, unfolding(crate::specs::Records::field_count))]
-fn field_count(line: Line) -> usize
-    ensures { result ≡ field_count line }
+// The number with a digit after it, if the byte is a digit and that a number of 64 bits.
+fn one_digit_longer(value: u64, byte: u8) -> Option<u64>
+    ensures { result ≡ one_digit_longer value (digit_of byte) }
 {
-    if !line.begun {
-        return 0;
-    }
-    if MAX_FIELDS <= line.place {
-        return 0;
-    }
-    line.place + 1
+    let digit = digit(byte)?;
+    value.checked_mul(16)?.checked_add(digit)
 }
 
-// The place of the first word of the answer in the record with a code, from 0 on; past the last field where no record has the code.
+// How many numbers the line has, if it is a list of numbers.
+#[tactic(auto, unfolding(crate::specs::Records::field_count))]
+fn field_count(line: Line) -> Option<usize>
+    ensures { result ≡ field_count line }
+{
+    match line.place {
+        Some(place) if line.begun && place < MAX_FIELDS => Some(place + 1),
+        _ => None,
+    }
+}
+
+// The place of the first word of the answer in the record with a code, from 0 on, if a record has the code.
 #[tactic(auto, unfolding(crate::specs::Records::answer_place))]
-fn answer_place(code: u64) -> usize
+fn answer_place(code: u64) -> Option<usize>
     ensures { result ≡ answer_place code }
 {
     let places: [usize; 23] = [
         2, 4, 5, 2, 35, 6, 22, 4, 4, 2, 2, 4, 3, 2, 2, 2, 1, 2, 2, 1, 3, 2, 4,
     ];
-    if 22 < code {
-        return MAX_FIELDS + 1;
-    }
-    places[code as usize]
+    places.get(code as usize).copied()
 }
 
 impl Record {
@@ -214,60 +218,28 @@ impl Record {
     pub fn expect(self, word: u64) -> Self
         ensures { result ≡ expected self word }
     {
-        let at = self.next;
-        if MAX_FIELDS <= at {
-            return self.no_record();
-        }
-        let fields = self.fields;
-        let before = self.difference;
-        let difference = first_difference(before, at, word, fields[at]);
-        Record {
-            fields,
-            count: self.count,
-            next: at + 1,
-            difference,
+        match self.next {
+            Some(at) if at < MAX_FIELDS => Record {
+                next: Some(at + 1),
+                difference: first_difference(self.difference, at, word, self.fields[at]),
+                ..self
+            },
+            _ => self.no_record(),
         }
     }
 
     // The same for several words.
     pub fn expect_all(self, words: &[u64]) -> Self
-        ensures { result ≡ foldl expected self words.now }
+        ensures { result ≡ fold expected self words.now }
     {
-        let mut record = self;
-        let mut i: usize = 0;
-        while i < words.len() {
-            record = record.expect(words[i]);
-            i += 1;
-        }
-        record
-    }
-
-    // The same for the registers of a core.
-    pub fn expect_registers(self, x: [u64; 31]) -> Self
-        ensures { result ≡ foldl expected self x }
-    {
-        self.expect_all(&x)
-    }
-
-    // The same for the values of a forwarded call.
-    pub fn expect_values(self, values: [u64; 18]) -> Self
-        ensures { result ≡ foldl expected self values }
-    {
-        self.expect_all(&values)
+        words.iter().fold(self, |record, word| record.expect(*word))
     }
 
     // A line that stands for no call: its answer never ends where the line does.
     pub fn no_record(self) -> Self
         ensures { result ≡ no_record self }
     {
-        let fields = self.fields;
-        let difference = self.difference;
-        Record {
-            fields,
-            count: self.count,
-            next: MAX_FIELDS + 1,
-            difference,
-        }
+        Record { next: None, ..self }
     }
 
     // What came of the record, when its answer is compared.
@@ -275,14 +247,13 @@ impl Record {
     pub fn outcome(self) -> Outcome
         ensures { result ≡ outcome_of self }
     {
-        if self.next != self.count {
-            return Outcome::NoRecord;
+        match (self.next, self.count) {
+            (Some(next), Some(count)) if next == count => match self.difference {
+                None => Outcome::Agrees,
+                Some(difference) => Outcome::Differs(difference),
+            },
+            _ => Outcome::NoRecord,
         }
-        let difference = self.difference;
-        if difference.field == 0 {
-            return Outcome::Agrees;
-        }
-        Outcome::Differs(difference)
     }
 }
 
@@ -290,47 +261,43 @@ impl Record {
 pub fn registers(fields: [u64; MAX_FIELDS]) -> [u64; 31]
     ensures { result ≡ take 31 (drop 2 fields) }
 {
-    let mut x = [0u64; 31];
-    copy(&fields[2..33], &mut x);
-    x
+    part(&fields, 2)
 }
 
 // The values of a reply, in such a record's fields.
 pub fn values(fields: [u64; MAX_FIELDS]) -> [u64; 18]
     ensures { result ≡ take 18 (drop 3 fields) }
 {
-    let mut values = [0u64; 18];
-    copy(&fields[3..21], &mut values);
-    values
+    part(&fields, 3)
+}
+
+// As many fields as the array has, from a place on.
+fn part<const N: usize>(fields: &[u64], from: usize) -> [u64; N]
+    requires { from + N ≤ length fields.now }
+    ensures { result ≡ take N (drop from fields.now) }
+{
+    let mut part = [0u64; N];
+    part.copy_from_slice(&fields[from..from + N]);
+    part
 }
 
 // The first difference, after a word at a place.
 #[tactic(auto, unfolding(crate::specs::Records::first_difference))]
-fn first_difference(before: Difference, place: usize, found: u64, recorded: u64) -> Difference
+fn first_difference(
+    before: Option<Difference>,
+    place: usize,
+    found: u64,
+    recorded: u64,
+) -> Option<Difference>
     requires { place < 39 }
     ensures { result ≡ first_difference before place found recorded }
 {
-    if before.field != 0 {
-        return before;
-    }
-    if found == recorded {
-        return before;
-    }
-    Difference {
-        field: place as u64 + 1,
-        found,
-        recorded,
-    }
-}
-
-// Copies a list of the same length.
-fn copy(from: &[u64], to: &mut [u64])
-    requires { length from.now ≡ length to.old }
-    ensures { to.new ≡ from.now }
-{
-    let mut i: usize = 0;
-    while i < from.len() {
-        to[i] = from[i];
-        i += 1;
+    match before {
+        None if found != recorded => Some(Difference {
+            field: place as u64 + 1,
+            found,
+            recorded,
+        }),
+        _ => before,
     }
 }

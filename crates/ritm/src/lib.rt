@@ -18,7 +18,7 @@ use lent_map::MAP_SIZE;
 use lent_policy::POLICY_SIZE;
 use lent_reply::VALUES_SIZE;
 use lent_words::{ONE_WORD, SIX_WORDS, THREE_WORDS};
-use memory_access::{Decoded, Fipa, MemoryAccess};
+use memory_access::{Fipa, MemoryAccess};
 
 // No range, no region.
 pub fn ritm_fresh_policy(policy: &mut [u8; POLICY_SIZE]) -> u64
@@ -181,8 +181,8 @@ pub fn ritm_decode(iss: u32, fipa: u64, far: u64, res: &mut [u8; SIX_WORDS]) -> 
     ensures { Leaves (decode_call iss fipa far) result [] res.new }
 {
     let decoded = MemoryAccess::decode(iss, Fipa(fipa), far);
-    lent_words::put_six(res, decoded.values());
-    decoded.number()
+    lent_words::put_six(res, memory_access::decoded_values(decoded));
+    memory_access::decoded_number(decoded)
 }
 
 // What a load with this syndrome puts into its register, of the value that was read: refusal 19.
@@ -190,13 +190,13 @@ pub fn ritm_extend_read_result(iss: u32, value: u64, res: &mut [u8; ONE_WORD]) -
     ensures { Leaves (extend_call iss value) result [] res.new }
 {
     match MemoryAccess::decode(iss, Fipa(0), 0) {
-        Decoded::Access(access) => {
+        Some(access) => {
             lent_words::put_one_word(res, access.extend_read_result(value));
             0
         }
-        Decoded::NoSyndrome => {
+        None => {
             lent_words::put_one_word(res, 0);
-            Decoded::NoSyndrome.number()
+            memory_access::decoded_number(None)
         }
     }
 }
@@ -214,8 +214,8 @@ pub fn ritm_align_up_to_page(address: u64, res: &mut [u8; ONE_WORD]) -> u64
     ensures { Leaves (align_up_call address) result [] res.new }
 {
     let aligned = stage2_range::align_up_to_page(address);
-    lent_words::put_one_word(res, aligned.value());
-    aligned.number()
+    lent_words::put_one_word(res, stage2_range::aligned_value(aligned));
+    stage2_range::aligned_number(aligned)
 }
 
 // The length in bytes of a lent buffer by its number, and 0 where there is none.
@@ -235,9 +235,8 @@ pub fn ritm_buffer_size(buffer: u64) -> u64
         SIX_WORDS as u64,
         ONE_WORD as u64,
     ];
-    if buffer < 10 {
-        sizes[buffer as usize]
-    } else {
-        0
+    match sizes.get(buffer as usize) {
+        Some(size) => *size,
+        None => 0,
     }
 }

@@ -10,30 +10,27 @@ use Rattle.lists.specs.Lists.{replace_first}
 use Rattle.lists.specs.Counts.{count_of, sum_to}
 use Rattle.lists.proofs.Laws.{cond_all}
 use Rattle.lists.proofs.Counts.{any_count, count_none, replace_count, replace_passed, replace_found, sum_le_but, sum_change}
-use Rattle.simple_map.specs.declared.OptionItem.{OptionItem}
-use Rattle.simple_map.specs.declared.OptionItem.TheVariants.{None, Some}
-use Rattle.simple_map.specs.declared.Place.{Place}
 use Rattle.simple_map.specs.declared.SimpleMap.{SimpleMap}
 use Rattle.simple_map.specs.declared.SuspendCoreData.{SuspendCoreData}
-use Rattle.simple_map.specs.declared.Lookup.TheVariants.{Nothing, Value}
-use Rattle.simple_map.specs.declared.Insertion.TheVariants.{Accepted}
 use Rattle.simple_map.specs.declared.Inserted.{Inserted}
-use Rattle.simple_map.specs.Map.{is_none, has_key, is_free, holds_key, free_place, taken, value_of, empty_map, without, get_item, remove_item, has_room, insert_item}
+use Rattle.simple_map.specs.Map.{has_key, is_free, holds_key, free_place, taken, value_of, empty_map, without, get_item, remove_item, has_room, insert_item}
 use Rattle.simple_map.specs.Keys.{KeysDiffer, HoldsKeys}
 use Rattle.simple_map.proofs.Laws.{room_any}
+use Rattle.std.specs.Prelude.{None, Ok, Option, Some, is_none}
+use Rattle.simple_map.specs.declared.Item.{Item}
 
 -- what holds a key is not free
-key-not-free : (k : ℕ) (item : OptionItem) → has_key k item ≡ true → is_none item ≡ false
+key-not-free : (k : ℕ) (item : Option Item) → has_key k item ≡ true → is_none item ≡ false
 key-not-free k None e = sym e
 key-not-free k (Some i) e = refl
 
 -- what is free holds no key
-free_no_key : (k : ℕ) (item : OptionItem) → is_none item ≡ true → has_key k item ≡ false
+free_no_key : (k : ℕ) (item : Option Item) → is_none item ≡ true → has_key k item ≡ false
 free_no_key k None e = refl
 free_no_key k (Some i) e = absurd (true≢false (sym e))
 
 -- what holds a key holds no other
-one_key : (k j : ℕ) → (k ≡ j → ⊥) → (item : OptionItem) → has_key k item ≡ true → has_key j item ≡ false
+one_key : (k j : ℕ) → (k ≡ j → ⊥) → (item : Option Item) → has_key k item ≡ true → has_key j item ≡ false
 one_key k j differ None e = refl
 one_key k j differ (Some i) e = ne_eqb i.key j (λ q. differ (sym (eqb-true i.key k e) ∙ q))
 
@@ -41,23 +38,23 @@ one_key k j differ (Some i) e = ne_eqb i.key j (λ q. differ (sym (eqb-true i.ke
 pub get_removed_other : (map : SimpleMap) (k j : ℕ) → (k ≡ j → ⊥) → get_item (remove_item map k).map j ≡ get_item map j
 unfolding remove_item without get_item is_free holds_key
 get_removed_other map k j differ =
-    replace_passed (holds_key k) (holds_key j) free_place value_of Nothing (λ p. one_key k j differ p.item) refl map.items
+    replace_passed (holds_key k) (holds_key j) free_place value_of None (λ p. one_key k j differ p) refl map.items
 
 -- so does an insert, accepted or not
 pub get_inserted_other : (map : SimpleMap) (k j : ℕ) (value : SuspendCoreData) → (k ≡ j → ⊥)
     → get_item (insert_item map k value).map j ≡ get_item map j
 unfolding insert_item remove_item get_item is_free holds_key
 get_inserted_other map k j value differ =
-    let passed = replace_passed is_free (holds_key j) (taken k value) value_of Nothing (λ p. free_no_key j p.item) (ne_eqb k j differ) in
+    let passed = replace_passed is_free (holds_key j) (taken k value) value_of None (λ p. free_no_key j p) (ne_eqb k j differ) in
     cond_all (λ (r : Inserted). get_item r.map j ≡ get_item map j) (has_room map k) _ _
     (passed (without k map.items) ∙ get_removed_other map k j differ) refl
 
 -- As many places as before are free or hold the key `k`, and as many hold each other key.
-record Moved (k : ℕ) (before after : List Place) : Type 0 where
+record Moved (k : ℕ) (before after : List (Option Item)) : Type 0 where
   total : count_of is_free after + count_of (holds_key k) after ≡ count_of is_free before + count_of (holds_key k) before
   others : (j : ℕ) → (k ≡ j → ⊥) → count_of (holds_key j) after ≡ count_of (holds_key j) before
 
-module _ (k : ℕ) (l : List Place) where
+module _ (k : ℕ) (l : List (Option Item)) where
   -- to remove an entry leaves one place less with the key, where there is one
   removed_own : count_of (holds_key k) (without k l) + min 1 (count_of (holds_key k) l) ≡ count_of (holds_key k) l
   unfolding without is_free holds_key
@@ -67,21 +64,21 @@ module _ (k : ℕ) (l : List Place) where
   removed_moved : Moved k l (without k l)
   unfolding without is_free holds_key
   removed_moved = record {
-    total = omega (arith, removed_own, replace_count (holds_key k) is_free free_place false true (λ p. key-not-free k p.item) refl l);
+    total = omega (arith, removed_own, replace_count (holds_key k) is_free free_place false true (λ p. key-not-free k p) refl l);
     others = λ j differ.
-        omega (arith, replace_count (holds_key k) (holds_key j) free_place false false (λ p. one_key k j differ p.item) refl l);
+        omega (arith, replace_count (holds_key k) (holds_key j) free_place false false (λ p. one_key k j differ p) refl l);
   }
 
   module _ (value : SuspendCoreData) where
     -- the places with an entry stored in the first that is free
-    abbrev filled : List Place
+    abbrev filled : List (Option Item)
     filled = replace_first is_free (taken k value) l
 
     -- to store an entry leaves one place more with the key, where one was free
     filled_own : count_of (holds_key k) filled ≡ count_of (holds_key k) l + min 1 (count_of is_free l)
     unfolding is_free holds_key
     filled_own =
-        omega (arith, replace_count is_free (holds_key k) (taken k value) false true (λ p. free_no_key k p.item) (eq-eqb k k refl) l)
+        omega (arith, replace_count is_free (holds_key k) (taken k value) false true (λ p. free_no_key k p) (eq-eqb k k refl) l)
 
     -- to store an entry takes a free place, and no other
     filled_moved : Moved k l filled
@@ -89,7 +86,7 @@ module _ (k : ℕ) (l : List Place) where
     filled_moved = record {
       total = omega (arith, filled_own, replace_count is_free is_free (taken k value) true false (λ p e. e) refl l);
       others = λ j differ.
-          omega (arith, replace_count is_free (holds_key j) (taken k value) false false (λ p. free_no_key j p.item) (ne_eqb k j differ) l);
+          omega (arith, replace_count is_free (holds_key j) (taken k value) false false (λ p. free_no_key j p) (ne_eqb k j differ) l);
     }
 
 -- a new map holds no key
@@ -117,7 +114,7 @@ module _ (key : ℕ → ℕ) (differ : KeysDiffer key) where
 
   module _ (map : SimpleMap) (holds : HoldsKeys key map) (c : ℕ) (within : c < 8) where
     -- the places once the core's entry is removed
-    abbrev rest : List Place
+    abbrev rest : List (Option Item)
     rest = without (key c) map.items
 
     -- none of them holds the core's key
@@ -130,9 +127,9 @@ module _ (key : ℕ → ℕ) (differ : KeysDiffer key) where
     remove_holds = moved_holds map (record { items = rest }) holds c within (removed_moved (key c) map.items) (omega (arith, rest_own))
 
     -- a core finds nothing once its entry is removed
-    pub get_removed : get_item (remove_item map (key c)).map (key c) ≡ Nothing
+    pub get_removed : get_item (remove_item map (key c)).map (key c) ≡ None
     unfolding get_item remove_item
-    get_removed = count_none (holds_key (key c)) value_of Nothing rest rest_own
+    get_removed = count_none (holds_key (key c)) value_of None rest rest_own
 
     -- one of them is free: they hold at most seven keys
     rest-free : 0 < count_of is_free rest
@@ -147,7 +144,7 @@ module _ (key : ℕ → ℕ) (differ : KeysDiffer key) where
 
     module _ (value : SuspendCoreData) where
       -- no insert of a core's entry finds the map full
-      pub insert_accepted : (insert_item map (key c) value).answer ≡ Accepted
+      pub insert_accepted : (insert_item map (key c) value).answer ≡ Ok tt
       unfolding insert_item
       insert_accepted = rw room
 
@@ -159,8 +156,8 @@ module _ (key : ℕ → ℕ) (differ : KeysDiffer key) where
           rw room (moved_holds _ _ remove_holds c within (filled_moved (key c) rest value) single)
 
       -- the core finds what it inserted
-      pub get_inserted : get_item (insert_item map (key c) value).map (key c) ≡ Value value
+      pub get_inserted : get_item (insert_item map (key c) value).map (key c) ≡ Some value
       unfolding insert_item get_item value_of is_free holds_key
       get_inserted =
           let own = eq-eqb (key c) (key c) refl in
-          rw room (replace_found is_free (holds_key (key c)) (taken (key c) value) value_of Nothing own rest rest-free rest_own)
+          rw room (replace_found is_free (holds_key (key c)) (taken (key c) value) value_of None own rest rest-free rest_own)

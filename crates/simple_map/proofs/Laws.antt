@@ -1,53 +1,70 @@
 -- Laws on the suspend map. Assumes nothing.
-use Prim.Native.Nat.{ℕ, ◌<◌, ◌≤◌}
+use Prim.Native.Nat.{ℕ}
 use mathlib.Core.Path.{◌≡◌, refl, sym, ◌∙◌, ap}
-use mathlib.Core.Bool.{true, false, cond, true≢false}
+use mathlib.Core.Bool.{cond, true, false, true≢false}
 use native.Mathlib.Omega.{arith}
 use mathlib.Core.List.{List, Memᴰ}
 use lib.Dec.{ltb}
 use borrow.Author.Tests.{lt-ltb, le-ltb}
 use lib.ListN.{length, get_or, set}
 use Rattle.lists.specs.Lists.{any_of, first_index}
-use Rattle.lists.proofs.Laws.{first-at, first_none, none_first, any_at, replace_at, replace_any, length_replace, cond_all}
-use Rattle.simple_map.specs.declared.OptionItem.{OptionItem}
-use Rattle.simple_map.specs.declared.OptionItem.TheVariants.{None, Some}
-use Rattle.simple_map.specs.declared.Place.{Place}
+use Rattle.lists.proofs.Laws.{replace_at, first-at, length_replace, first_none, none_first, any_at, replace_any, cond_all}
 use Rattle.simple_map.specs.declared.SimpleMap.{SimpleMap}
-use Rattle.simple_map.specs.declared.Lookup.TheVariants.{Nothing}
-use Rattle.simple_map.specs.declared.Insertion.TheVariants.{Accepted, CapacityExceeded}
 use Rattle.simple_map.specs.declared.SuspendCoreData.{SuspendCoreData}
-use Rattle.simple_map.specs.Map.{has_key, item_value, is_free, taken, holds_key, free_place, without, has_room, value_of, get_item, insert_item, insert_number}
+use Rattle.simple_map.specs.Map.{has_key, item_value, is_free, taken, holds_key, free_place, without, has_room, value_of, get_item, remove_item, insert_item, insert_number, capacity_exceeded}
 use Rattle.simple_map.specs.declared.Inserted.{Inserted}
-use Rattle.simple_map.specs.declared.Sought.TheVariants.{Free}
-use Rattle.simple_map.specs.Search.{place_fits}
+use Rattle.simple_map.specs.declared.Removed.{Removed}
+use Rattle.std.specs.Prelude.{Err, None, Ok, Option, Some, position}
+use Rattle.lists.proofs.Places.{found_at, found_nowhere, first_found, none_found, replaced_found, none_replaced}
+use Rattle.simple_map.specs.declared.Item.{Item}
 
 -- the first item with the key, by its place
 pub get_at : (map : SimpleMap) (key : ℕ)
     → get_item map key
     ≡ cond (ltb (first_index (holds_key key) map.items) (length map.items))
     (value_of (get_or map.items (first_index (holds_key key) map.items) free_place))
-    Nothing
+    None
 unfolding get_item
-get_at map key = first-at (holds_key key) value_of Nothing map.items free_place
+get_at map key = first-at (holds_key key) value_of None map.items free_place
 
-pub without_at : (key : ℕ) (items : List Place) → without key items ≡ set items (first_index (holds_key key) items) free_place
+pub without_at : (key : ℕ) (items : List (Option Item)) → without key items ≡ set items (first_index (holds_key key) items) free_place
 unfolding without
 without_at key items = replace_at (holds_key key) free_place items
 
-item_differs : (key : ℕ) (item : OptionItem) → has_key key item ≡ true → item_value item ≡ Nothing → ⊥
+module _ (map : SimpleMap) (key : ℕ) where
+  -- look-up and removal of the first item with the key, by its place
+  pub get_found : (at : ℕ) → position (holds_key key) map.items ≡ Some at → value_of (get_or map.items at free_place) ≡ get_item map key
+  unfolding get_item
+  get_found at e = sym (first_found (holds_key key) value_of None map.items at free_place e)
+
+  pub remove_found : (at : ℕ) → position (holds_key key) map.items ≡ Some at
+      → record { removed = get_item map key; map = record { items = set map.items at free_place } } ≡ remove_item map key
+  unfolding remove_item without
+  remove_found at e = rw (replaced_found (holds_key key) free_place map.items at e)
+
+  -- and where no item has it
+  pub get_missing : position (holds_key key) map.items ≡ None → None ≡ get_item map key
+  unfolding get_item
+  get_missing e = sym (none_found (holds_key key) value_of None map.items e)
+
+  pub remove_missing : position (holds_key key) map.items ≡ None → record { removed = get_item map key; map = map } ≡ remove_item map key
+  unfolding remove_item without
+  remove_missing e = rw (none_replaced (holds_key key) free_place map.items e)
+
+item_differs : (key : ℕ) (item : Option Item) → has_key key item ≡ true → item_value item ≡ None → ⊥
 item_differs key None t e = true≢false (sym t)
 item_differs key (Some i) t e = let z : ◌≡◌ {A = ℕ} 0 1 = cc in omega arith
 
 -- look-up answers none exactly where no place holds the key
-pub get_none : (map : SimpleMap) (key : ℕ) → get_item map key ≡ Nothing → (place : Place) → Memᴰ place map.items
+pub get_none : (map : SimpleMap) (key : ℕ) → get_item map key ≡ None → (place : Option Item) → Memᴰ place map.items
     → holds_key key place ≡ false
 unfolding get_item is_free holds_key value_of
-get_none map key e = first_none (holds_key key) value_of Nothing (λ place. item_differs key place.item) map.items e
+get_none map key e = first_none (holds_key key) value_of None (λ place. item_differs key place) map.items e
 
-pub none_get : (map : SimpleMap) (key : ℕ) → ((place : Place) → Memᴰ place map.items → holds_key key place ≡ false)
-    → get_item map key ≡ Nothing
+pub none_get : (map : SimpleMap) (key : ℕ) → ((place : Option Item) → Memᴰ place map.items → holds_key key place ≡ false)
+    → get_item map key ≡ None
 unfolding get_item
-none_get map key h = none_first (holds_key key) value_of Nothing map.items h
+none_get map key h = none_first (holds_key key) value_of None map.items h
 
 -- there is room where a place is free once the first item with the key is removed
 pub room_any : (map : SimpleMap) (key : ℕ) → has_room map key ≡ any_of is_free (without key map.items)
@@ -55,39 +72,44 @@ unfolding has_room without is_free holds_key
 room_any map key = sym (replace_any (holds_key key) is_free free_place refl map.items)
 
 module _ (map : SimpleMap) (key : ℕ) (value : SuspendCoreData) where
-  -- the places once the first item with the key is removed, and the first that is free then
-  abbrev rest : List Place
+  -- the places once the first item with the key is removed
+  abbrev rest : List (Option Item)
   rest = without key map.items
 
-  abbrev free_at : ℕ
-  free_at = first_index is_free rest
+  -- there is room where one of them is free
+  room_at : has_room map key ≡ ltb (first_index is_free rest) (length rest)
+  room_at = room_any map key ∙ any_at is_free rest
 
-  -- there is room where that is a place
-  room_at : has_room map key ≡ ltb free_at (length map.items)
-  unfolding without
-  room_at =
-      room_any map key
-      ∙ any_at is_free rest
-      ∙ ap (ltb free_at) (length_replace (holds_key key) free_place map.items)
-
-  -- to insert is to store there
+  -- to insert is to store at the first free place
   pub insert_at_lem : insert_item map key value
-      ≡ cond (ltb free_at (length map.items))
-      (record { answer = Accepted; map = record { items = set rest free_at (taken key value) } })
-      (record { answer = CapacityExceeded; map = map })
-  unfolding insert_item
-  insert_at_lem = rw (room_at, replace_at is_free (taken key value) rest)
+      ≡ cond (ltb (first_index is_free rest) (length map.items))
+      (record { answer = Ok tt; map = record { items = set rest (first_index is_free rest) (taken key value) } })
+      (record { answer = Err capacity_exceeded; map = map })
+  unfolding insert_item without
+  insert_at_lem =
+      let e : has_room map key ≡ ltb (first_index is_free rest) (length map.items) =
+      room_at ∙ ap (ltb (first_index is_free rest)) (length_replace (holds_key key) free_place map.items)
+      in
+      rw (e, replace_at is_free (taken key value) rest)
 
-  -- by the place found among those left: the item is stored there, or none is free
-  pub insert_stores : (found : List Place) (at : ℕ) → found ≡ rest → at ≡ first_index is_free found → length map.items ≡ 8 → at < 8
-      → record { answer = Accepted; map = record { items = set found at (taken key value) } } ≡ insert_item map key value
-  insert_stores found at e f full h = sym (rw (insert_at_lem, full, ← e, ← f, lt-ltb at 8 h))
+  -- by the free place found once the key is removed: the item is stored there, or none is free
+  pub insert_stores : (removed : Removed) (at : ℕ) → removed ≡ remove_item map key → position is_free removed.map.items ≡ Some at
+      → record { answer = Ok tt; map = record { items = set removed.map.items at (taken key value) } } ≡ insert_item map key value
+  unfolding insert_item remove_item
+  insert_stores removed at r e =
+      let e' : position is_free rest ≡ Some at = sym (ap (λ s. position is_free s.map.items) r) ∙ e in
+      let f = found_at is_free rest at e' in
+      sym (rw (r, room_at, f.1, lt-ltb at (length rest) f.0, replaced_found is_free (taken key value) rest at e'))
 
-  pub insert_full : length map.items ≡ 8 → 8 ≤ first_index (place_fits Free) rest → record { answer = CapacityExceeded; map = map } ≡ insert_item map key value
-  insert_full full h = sym (rw (insert_at_lem, full, le-ltb free_at 8 h))
+  pub insert_full : (removed : Removed) → removed ≡ remove_item map key → position is_free removed.map.items ≡ None
+      → record { answer = Err capacity_exceeded; map = map } ≡ insert_item map key value
+  unfolding insert_item remove_item
+  insert_full removed r e =
+      let past = found_nowhere is_free rest (sym (ap (λ s. position is_free s.map.items) r) ∙ e) in
+      sym (rw (room_at, le-ltb (first_index is_free rest) (length rest) past))
 
   -- 16 exactly where the key is not held and all places are taken; the map is then as it was
-  pub no_room_refused : has_room map key ≡ false → insert_item map key value ≡ record { answer = CapacityExceeded; map = map }
+  pub no_room_refused : has_room map key ≡ false → insert_item map key value ≡ record { answer = Err capacity_exceeded; map = map }
   unfolding insert_item
   no_room_refused e = rw e
 

@@ -1,4 +1,3 @@
 -- What the contracts of `simple_map` cite, and what its laws say.
 pub mod Map
-pub mod Search
 pub mod Keys

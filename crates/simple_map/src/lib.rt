@@ -3,10 +3,10 @@
 
 #![tactic(auto)]
 
-ghost use Rattle.std.specs.Prelude.{◌≡◌, cond, ltb, get_or, set};
-ghost use Rattle.lists.specs.Lists.{first_index};
-ghost use Rattle.simple_map.specs.Map.{free_place, value_of, without, empty_map, get_item, insert_item, insert_number, remove_item};
-ghost use Rattle.simple_map.specs.Search.{place_fits};
+ghost use Rattle.std.specs.Prelude.{◌≡◌, position};
+ghost use Rattle.simple_map.specs.Map.{is_free, holds_key, value_of, empty_map, get_item, insert_item, capacity_number, remove_item};
+
+use lists::refusal::Refusal;
 
 // Where a suspended core resumes, and with what.
 #[derive(Clone, Copy)]
@@ -22,60 +22,37 @@ pub struct Item {
     pub value: SuspendCoreData,
 }
 
-// RITM's `Option<Item>`.
-#[derive(Clone, Copy)]
-pub enum OptionItem {
-    None,
-    Some(Item),
-}
-
-#[derive(Clone, Copy)]
-pub struct Place {
-    pub item: OptionItem,
-}
-
 // RITM's `SimpleMap<MpidrEl1, SuspendCoreData, MAX_CORES>`.
 #[derive(Clone, Copy)]
 pub struct SimpleMap {
-    pub items: [Place; 8],
+    pub items: [Option<Item>; 8],
 }
 
-// What a look-up finds.
-#[derive(Clone, Copy)]
-pub enum Lookup {
-    Nothing,
-    Value(SuspendCoreData),
-}
-
+// What `remove` gives, and the map then, as `Inserted`.
 #[derive(Clone, Copy)]
 pub struct Removed {
-    pub removed: Lookup,
+    pub removed: Option<SuspendCoreData>,
     pub map: SimpleMap,
 }
 
-// What `insert` answers.
+// All places are taken.
 #[derive(Clone, Copy)]
-pub enum Insertion {
-    Accepted,
-    CapacityExceeded,
+pub struct CapacityExceeded;
+
+impl Refusal for CapacityExceeded {
+    ghost number_of = { capacity_number };
+
+    fn number(self) -> u64 {
+        16
+    }
 }
 
+// What `insert` answers, and the map then. (No `Result<SimpleMap, _>`: that a refusal leaves the map as it was is said of the map that it
+// gives.)
 #[derive(Clone, Copy)]
 pub struct Inserted {
-    pub answer: Insertion,
+    pub answer: Result<(), CapacityExceeded>,
     pub map: SimpleMap,
-}
-
-impl Insertion {
-    // The answer's number in the table of refusals.
-    pub fn number(self) -> u64
-        ensures { result ≡ insert_number self }
-    {
-        match self {
-            Insertion::Accepted => 0,
-            Insertion::CapacityExceeded => 16,
-        }
-    }
 }
 
 impl SimpleMap {
@@ -83,18 +60,19 @@ impl SimpleMap {
     pub fn new() -> Self
         ensures { result ≡ empty_map }
     {
-        let free = free_place();
-        SimpleMap { items: [free; 8] }
+        SimpleMap { items: [None; 8] }
     }
 
     // The value of the first item with the key. (RITM's `get_mut` lends it.)
-    #[tactic(auto, using(crate::proofs::Laws::get_at))]
-    pub fn get(self, key: u64) -> Lookup
+    #[tactic(auto, using(crate::proofs::Laws::get_found, crate::proofs::Laws::get_missing))]
+    pub fn get(self, key: u64) -> Option<SuspendCoreData>
         ensures { result ≡ get_item self key }
     {
         let items = self.items;
-        let at = position(items, Sought::Key(key));
-        value_at(items, at)
+        match find_key(&items, key) {
+            Some(at) => value_of(items[at]),
+            None => None,
+        }
     }
 
     // Removes the first item with the key, then puts the new one into the first free place.
@@ -102,133 +80,68 @@ impl SimpleMap {
     pub fn insert(self, key: u64, value: SuspendCoreData) -> Inserted
         ensures { result ≡ insert_item self key value }
     {
-        let items = self.items;
-        let rest = without_key(items, key);
-        let at = position(rest, Sought::Free);
-        if at < 8 {
-            let place = Place {
-                item: OptionItem::Some(Item { key, value }),
-            };
-            let map = SimpleMap {
-                items: store(rest, at, place),
-            };
-            Inserted {
-                answer: Insertion::Accepted,
-                map,
+        let rest = self.remove(key).map;
+        let mut items = rest.items;
+        match find_free(&items) {
+            Some(at) => {
+                items[at] = Some(Item { key, value });
+                Inserted {
+                    answer: Ok(()),
+                    map: SimpleMap { items },
+                }
             }
-        } else {
-            Inserted {
-                answer: Insertion::CapacityExceeded,
+            None => Inserted {
+                answer: Err(CapacityExceeded),
                 map: self,
-            }
+            },
         }
     }
 
     // Removes the first item with the key, and answers its value.
-    #[tactic(auto, unfolding(crate::specs::Map::remove_item))]
+    #[tactic(auto, using(crate::proofs::Laws::remove_found, crate::proofs::Laws::remove_missing))]
     pub fn remove(self, key: u64) -> Removed
         ensures { result ≡ remove_item self key }
     {
-        let items = self.items;
-        let map = SimpleMap {
-            items: without_key(items, key),
-        };
+        let removed = self.get(key);
+        let mut items = self.items;
+        if let Some(at) = find_key(&items, key) {
+            items[at] = None;
+        }
         Removed {
-            removed: self.get(key),
-            map,
+            removed,
+            map: SimpleMap { items },
         }
     }
 }
 
-fn free_place() -> Place
-    ensures { result ≡ free_place }
+#[tactic(auto, unfolding(crate::specs::Map::holds_key))]
+fn holds_key(place: Option<Item>, key: u64) -> bool
+    ensures { result ≡ holds_key key place }
 {
-    Place {
-        item: OptionItem::None,
+    match place {
+        Some(item) => item.key == key,
+        None => false,
     }
 }
 
-// What a search of the map looks for.
-#[derive(Clone, Copy)]
-enum Sought {
-    Free,
-    Key(u64),
+// The first place that holds an item with the key.
+fn find_key(items: &[Option<Item>], key: u64) -> Option<usize>
+    ensures { result ≡ position (holds_key key) items.now }
+{
+    items.iter().position(|place| holds_key(*place, key))
 }
 
-#[tactic(auto, unfolding(crate::specs::Map::is_free, crate::specs::Map::holds_key))]
-fn place_fits(place: Place, sought: Sought) -> bool
-    ensures { result ≡ place_fits sought place }
+// The first free place.
+#[tactic(auto, unfolding(crate::specs::Map::is_free))]
+fn find_free(items: &[Option<Item>]) -> Option<usize>
+    ensures { result ≡ position is_free items.now }
 {
-    let item = place.item;
-    match item {
-        OptionItem::None => match sought {
-            Sought::Free => true,
-            Sought::Key(_) => false,
-        },
-        OptionItem::Some(i) => match sought {
-            Sought::Free => false,
-            Sought::Key(key) => i.key == key,
-        },
-    }
+    items.iter().position(|place| place.is_none())
 }
 
 #[tactic(auto, unfolding(crate::specs::Map::value_of))]
-fn value_of(place: Place) -> Lookup
+fn value_of(place: Option<Item>) -> Option<SuspendCoreData>
     ensures { result ≡ value_of place }
 {
-    let item = place.item;
-    match item {
-        OptionItem::None => Lookup::Nothing,
-        OptionItem::Some(i) => {
-            let value = i.value;
-            Lookup::Value(value)
-        }
-    }
-}
-
-// The first place that fits, and 8 where none does.
-fn position(items: [Place; 8], sought: Sought) -> usize
-    ensures { result ≡ first_index (place_fits sought) items }
-{
-    let mut i: usize = 0;
-    while i < 8 {
-        let place = items[i];
-        if place_fits(place, sought) {
-            return i;
-        }
-        i += 1;
-    }
-    i
-}
-
-fn value_at(items: [Place; 8], at: usize) -> Lookup
-    ensures { result ≡ cond (ltb at 8) (value_of (get_or items at free_place)) Lookup.Nothing }
-{
-    if at < 8 {
-        let place = items[at];
-        value_of(place)
-    } else {
-        Lookup::Nothing
-    }
-}
-
-// Stores at a place, and nowhere where there is no such place.
-fn store(items: [Place; 8], at: usize, place: Place) -> [Place; 8]
-    ensures { result ≡ set items at place }
-{
-    if at < 8 {
-        let mut out = items;
-        out[at] = place;
-        out
-    } else {
-        items
-    }
-}
-
-#[tactic(auto, using(crate::proofs::Laws::without_at))]
-fn without_key(items: [Place; 8], key: u64) -> [Place; 8]
-    ensures { result ≡ without key items }
-{
-    let at = position(items, Sought::Key(key));
-    store(items, at, free_place())
+    Some(place?.value)
 }

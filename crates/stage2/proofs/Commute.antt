@@ -11,8 +11,6 @@ use Rattle.lists.specs.Refusals.{case}
 use Rattle.lists.proofs.Laws.{both_true}
 use Rattle.lists.proofs.Removal.{without_comm, any_without}
 use Rattle.stage2_range.specs.declared.Stage2ConfigError.TheVariants.{RangeNotHeld}
-use Rattle.stage2_range.specs.declared.Stage2Result.{Stage2Result}
-use Rattle.stage2_range.specs.declared.Stage2Result.TheVariants.{Accepted, Refused}
 use Rattle.stage2_range.specs.declared.Stage2Range.{Stage2Range}
 use Rattle.stage2_range.specs.declared.MemoryAccessRegion.{MemoryAccessRegion}
 use Rattle.stage2_range.specs.Ranges.{after, answer_of, validate_range, is_range}
@@ -20,6 +18,8 @@ use Rattle.stage2_range.specs.Registry.{is_region}
 use Rattle.stage2.specs.declared.Policy.{Policy}
 use Rattle.stage2.specs.Policy.{allowed_held, regions_held, release_range}
 use Rattle.stage2.proofs.Release.{release_answer_lem, release_splits, where_valid, allowed_after, regions_after, release_holds, release_places}
+use Rattle.std.specs.Prelude.{Err, Ok, Result, ⊤}
+use Rattle.stage2_range.specs.declared.Stage2ConfigError.{Stage2ConfigError}
 
 -- a record has one base and one size
 one_match : (base size b s b' s' : ℕ) → (b ≡ b' → s ≡ s' → ⊥) → (eqb base b && eqb size s) ≡ true → (eqb base b' && eqb size s') ≡ true → ⊥
@@ -47,18 +47,18 @@ module _ (p : Policy) (full : 32 ≤ length p.allowed) (full' : 16 ≤ length p.
   range_still : any_of (is_range b s) (allowed_held (release_range p b' s').policy) ≡ any_of (is_range b s) (allowed_held p)
   range_still = ap (any_of (is_range b s)) (release_holds p b' s' full full').0 ∙ go (validate_range b' s')
     where
-      go : (v : Stage2Result) → any_of (is_range b s) (where_valid v (without_first (is_range b' s') (allowed_held p)) (allowed_held p)) ≡ any_of (is_range b s) (allowed_held p)
-      go Accepted = any_without (is_range b s) (is_range b' s') ranges_differ (allowed_held p)
-      go (Refused e) = refl
+      go : (v : Result ⊤ Stage2ConfigError) → any_of (is_range b s) (where_valid v (without_first (is_range b' s') (allowed_held p)) (allowed_held p)) ≡ any_of (is_range b s) (allowed_held p)
+      go (Ok _) = any_without (is_range b s) (is_range b' s') ranges_differ (allowed_held p)
+      go (Err e) = refl
 
   region_still : any_of (is_region b s) (regions_held (release_range p b' s').policy) ≡ any_of (is_region b s) (regions_held p)
   region_still = ap (any_of (is_region b s)) (release_holds p b' s' full full').1 ∙ go (validate_range b' s') (any_of (is_range b' s') (allowed_held p))
     where
-      go : (v : Stage2Result) (a : Bool)
+      go : (v : Result ⊤ Stage2ConfigError) (a : Bool)
           → any_of (is_region b s) (where_valid v (cond a (regions_held p) (without_first (is_region b' s') (regions_held p))) (regions_held p)) ≡ any_of (is_region b s) (regions_held p)
-      go Accepted true = refl
-      go Accepted false = any_without (is_region b s) (is_region b' s') regions_differ (regions_held p)
-      go (Refused e) a = refl
+      go (Ok _) true = refl
+      go (Ok _) false = any_without (is_region b s) (is_region b' s') regions_differ (regions_held p)
+      go (Err e) a = refl
 
   -- so it answers the same
   answer_still : (release_range (release_range p b' s').policy b s).answer ≡ (release_range p b s).answer
@@ -83,23 +83,23 @@ module _ (p : Policy) (full : 32 ≤ length p.allowed) (full' : 16 ≤ length p.
       ∙ (λ i. where_valid (validate_range b s) (cond (range_still i) (regions i) (without_first (is_region b s) (regions i))) (regions i))
 
   -- either way round
-  allowed_comm : (v v' : Stage2Result) (l : List Stage2Range) →
+  allowed_comm : (v v' : Result ⊤ Stage2ConfigError) (l : List Stage2Range) →
       let one : List Stage2Range → List Stage2Range = λ m. where_valid v (without_first (is_range b s) m) m in
       let two : List Stage2Range → List Stage2Range = λ m. where_valid v' (without_first (is_range b' s') m) m in
       one (two l) ≡ two (one l)
-  allowed_comm Accepted Accepted l = without_comm (is_range b s) (is_range b' s') ranges_differ l
-  allowed_comm Accepted (Refused e) l = refl
-  allowed_comm (Refused e) v' l = refl
+  allowed_comm (Ok _) (Ok _) l = without_comm (is_range b s) (is_range b' s') ranges_differ l
+  allowed_comm (Ok _) (Err e) l = refl
+  allowed_comm (Err e) v' l = refl
 
-  regions_comm : (v v' : Stage2Result) (a a' : Bool) (l : List MemoryAccessRegion) →
+  regions_comm : (v v' : Result ⊤ Stage2ConfigError) (a a' : Bool) (l : List MemoryAccessRegion) →
       let one : List MemoryAccessRegion → List MemoryAccessRegion = λ m. where_valid v (cond a m (without_first (is_region b s) m)) m in
       let two : List MemoryAccessRegion → List MemoryAccessRegion = λ m. where_valid v' (cond a' m (without_first (is_region b' s') m)) m in
       one (two l) ≡ two (one l)
-  regions_comm Accepted Accepted false false l = without_comm (is_region b s) (is_region b' s') regions_differ l
-  regions_comm Accepted Accepted true a' l = refl
-  regions_comm Accepted Accepted false true l = refl
-  regions_comm Accepted (Refused e) a a' l = refl
-  regions_comm (Refused e) v' a a' l = refl
+  regions_comm (Ok _) (Ok _) false false l = without_comm (is_region b s) (is_region b' s') regions_differ l
+  regions_comm (Ok _) (Ok _) true a' l = refl
+  regions_comm (Ok _) (Ok _) false true l = refl
+  regions_comm (Ok _) (Err e) a a' l = refl
+  regions_comm (Err e) v' a a' l = refl
 
 pub releases_commute : (p : Policy) (b s b' s' : ℕ) → 32 ≤ length p.allowed → 16 ≤ length p.regions → (b ≡ b' → s ≡ s' → ⊥)
     → Commute p b s b' s'

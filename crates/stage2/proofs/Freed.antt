@@ -12,11 +12,8 @@ use Rattle.lists.proofs.Laws.{FirstFit, first_member, both_true, insert_end, non
 use Rattle.lists.proofs.Removal.{any_first, without_first_lem, without_member, length_without}
 use Rattle.memory_access.specs.declared.Ipa.{Ipa}
 use Rattle.stage2_range.specs.declared.Stage2ConfigError.TheVariants.{RangeNotHeld}
-use Rattle.stage2_range.specs.declared.Stage2Result.TheVariants.{Accepted, Refused}
 use Rattle.stage2_range.specs.declared.PageRange.{PageRange}
 use Rattle.stage2_range.specs.declared.MemoryAccessRegion.{MemoryAccessRegion}
-use Rattle.stage2_range.specs.declared.RegionFound.{RegionFound}
-use Rattle.stage2_range.specs.declared.RegionFound.TheVariants.{Nothing, Match}
 use Rattle.stage2_range.specs.Ranges.{ValidRange, page_range, has_byte, shares_byte, range_of, range_bytes, is_range}
 use Rattle.stage2_range.specs.Registry.{region_bytes, is_region, find_region}
 use Rattle.stage2_range.proofs.Ranges.{shares_sym, apart_byte, apart_bases, base_byte, valid_byte, valid_accepted}
@@ -28,6 +25,8 @@ use Rattle.stage2.proofs.Laws.{can_allow}
 use Rattle.stage2.proofs.WellFormed.{others_apart, allowed_held_lem}
 use Rattle.stage2.proofs.Held.{allowed_length}
 use Rattle.stage2.proofs.Release.{release_answer_lem, release_splits, release_accepted, by_list, allowed_without, regions-without, ranges-full, regions-full, without_allowed_keeps, release_keeps}
+use Rattle.std.specs.Prelude.{Err, None, Ok, Option, Some}
+use Rattle.stage2_range.specs.declared.MemoryAccessHandlerMatch.{MemoryAccessHandlerMatch}
 
 -- Records with a size and bytes, and those among them with the base `b` and the size `s`.
 module _ {A : Type 0} (size_of : A → ℕ) (bytes_of : A → PageRange) (b s : ℕ) where
@@ -115,21 +114,21 @@ module _ (p : Policy) (base size : ℕ) (w : WellFormed p) where
         from_regions = rw left (others_free _ region_bytes base size (regions_held p) d r f);
       }
 
-  pub release_frees : (release_range p base size).answer ≡ Accepted → Apart (release_range p base size).policy (page_range base size)
+  pub release_frees : (release_range p base size).answer ≡ Ok tt → Apart (release_range p base size).policy (page_range base size)
   release_frees h =
       by_list p base size (λ q. Apart q (page_range base size)) (release_accepted p base size h) allowed_freed (λ n. region_freed)
 
   -- `find` then has no address of the released range
-  pub released_not-found : (release_range p base size).answer ≡ Accepted → (ipa : Ipa) → base ≤ ipa.0 → ipa.0 < base + size
-      → find_region (regions_held (release_range p base size).policy) ipa ≡ Nothing
+  pub released_not-found : (release_range p base size).answer ≡ Ok tt → (ipa : Ipa) → base ≤ ipa.0 → ipa.0 < base + size
+      → find_region (regions_held (release_range p base size).policy) ipa ≡ None
   released_not-found h ipa low high = go (find_region regions ipa) refl
     where
       regions : List MemoryAccessRegion
       regions = regions_held (release_range p base size).policy
 
-      go : (x : RegionFound) → find_region regions ipa ≡ x → x ≡ Nothing
-      go Nothing e = refl
-      go (Match m) e =
+      go : (x : Option MemoryAccessHandlerMatch) → find_region regions ipa ≡ x → x ≡ None
+      go None e = refl
+      go (Some m) e =
           let k = find-held regions ipa m e in
           let v = (release_accepted p base size h).fits in
           absurd (apart_byte (region_bytes m.region) (page_range base size) ((release_frees h).from_regions m.region k.0) ipa.0 k.1
@@ -138,7 +137,7 @@ module _ (p : Policy) (base size : ℕ) (w : WellFormed p) where
   -- "the freed place is used again": with 32 held too, a range that fits the policy then is accepted, and stands last
   pub freed_place : range_held p base size ≡ true → (b s a : ℕ) → ValidRange b s → Apart (without_allowed p base size) (page_range b s)
       → let q = without_allowed p base size in
-      ((allow_range q b s a).answer ≡ Accepted) × (allowed_held (allow_range q b s a).policy ≡ allowed_held q ++ (range_of b s a ∷ []))
+      ((allow_range q b s a).answer ≡ Ok tt) × (allowed_held (allow_range q b s a).policy ≡ allowed_held q ++ (range_of b s a ∷ []))
   unfolding without_allowed
   freed_place h b s a valid apart =
       let q = without_allowed p base size in
@@ -149,8 +148,8 @@ module _ (p : Policy) (base size : ℕ) (w : WellFormed p) where
       rw k (refl, allowed_held_lem q (range_of b s a) places room ∙ insert_end (range_of b s a) (allowed_held q))
 
   -- at most one record has a base and a size: released again, 23
-  pub release_twice : (release_range p base size).answer ≡ Accepted
-      → (release_range (release_range p base size).policy base size).answer ≡ Refused RangeNotHeld
+  pub release_twice : (release_range p base size).answer ≡ Ok tt
+      → (release_range (release_range p base size).policy base size).answer ≡ Err RangeNotHeld
   release_twice h =
       let q = (release_range p base size).policy in
       let w' = release_keeps p base size w in

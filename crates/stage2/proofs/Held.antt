@@ -8,8 +8,6 @@ use lib.Dec.{leb}
 use lib.ListN.{length}
 use Rattle.lists.specs.Lists.{insert_before}
 use Rattle.lists.proofs.Laws.{length-held}
-use Rattle.stage2_range.specs.declared.Stage2Result.{Stage2Result}
-use Rattle.stage2_range.specs.declared.Stage2Result.TheVariants.{Accepted, Refused}
 use Rattle.stage2_range.specs.Ranges.{range_of, result_number}
 use Rattle.stage2_range.specs.Registry.{region_of}
 use Rattle.stage2_range.proofs.Ranges.{error_not_zero}
@@ -18,6 +16,8 @@ use Rattle.stage2.specs.Policy.{allowed_held, regions_held, allow_answer, add_al
 use Rattle.stage2.specs.Builds.{BuilderCall, allow, handle, build, SameHeld, WellFormed}
 use Rattle.stage2.proofs.Laws.{build-refused, allow_answer_lem, handle_answer_lem, allow_accepted, can_allow, handle_accepted, can_handle}
 use Rattle.stage2.proofs.WellFormed.{allowed_held_lem, regions_held_lem, build_keeps}
+use Rattle.std.specs.Prelude.{Err, Ok, Result, ⊤}
+use Rattle.stage2_range.specs.declared.Stage2ConfigError.{Stage2ConfigError}
 
 -- What a well-formed policy holds, and what it holds after an accepted call.
 module _ (p : Policy) (w : WellFormed p) where
@@ -34,7 +34,7 @@ module _ (p : Policy) (w : WellFormed p) where
       omega (arith, e, w.region_places.within)
 
   -- an accepted allow call puts its range last, and leaves the regions
-  pub allow_holds : (base size attributes : ℕ) → (build p (allow base size attributes)).answer ≡ Accepted
+  pub allow_holds : (base size attributes : ℕ) → (build p (allow base size attributes)).answer ≡ Ok tt
       → let q = (build p (allow base size attributes)).policy in
       (allowed_held q ≡ insert_before (λ x. false) (range_of base size attributes) (allowed_held p)) × (regions_held q ≡ regions_held p)
   unfolding add_allowed
@@ -44,7 +44,7 @@ module _ (p : Policy) (w : WellFormed p) where
       (allowed_held_lem p (range_of base size attributes) w.allowed_places.all k.room, refl)
 
   -- an accepted handle call puts its region at its place by base, and leaves the allowed ranges
-  pub handle_holds : (base size read write : ℕ) → (build p (handle base size read write)).answer ≡ Accepted
+  pub handle_holds : (base size read write : ℕ) → (build p (handle base size read write)).answer ≡ Ok tt
       → let q = (build p (handle base size read write)).policy in
       (allowed_held q ≡ allowed_held p)
       × (regions_held q ≡ insert_before (λ x. leb base x.base_ipa) (region_of base size read write) (regions_held p))
@@ -77,17 +77,17 @@ module _ (p q : Policy) (same : SameHeld p q) where
   pub build-same-held : (c : BuilderCall) → WellFormed p → WellFormed q → SameHeld (build p c).policy (build q c).policy
   build-same-held c w w' = go c (build p c).answer refl
     where
-      go : (d : BuilderCall) (s : Stage2Result) → (build p d).answer ≡ s → SameHeld (build p d).policy (build q d).policy
-      go d (Refused e) h =
+      go : (d : BuilderCall) (s : Result ⊤ Stage2ConfigError) → (build p d).answer ≡ s → SameHeld (build p d).policy (build q d).policy
+      go d (Err e) h =
           let n : result_number (build p d).answer ≡ 0 → ⊥ = λ z. error_not_zero e (sym (ap result_number h) ∙ z) in
           rw (build-refused p d n, build-refused q d (λ z. n (ap result_number (build_answer_same d) ∙ z))) same
-      go (allow base size attributes) Accepted h =
+      go (allow base size attributes) (Ok _) h =
           let d = allow base size attributes in
           let g = allow_holds p w base size attributes h in
           let k = allow_holds q w' base size attributes (sym (build_answer_same d) ∙ h) in
           same-held _ _ (build_keeps p d w) (build_keeps q d w')
           (g.0 ∙ ap (insert_before (λ x. false) (range_of base size attributes)) same.allowed ∙ sym k.0) (g.1 ∙ same.regions ∙ sym k.1)
-      go (handle base size read write) Accepted h =
+      go (handle base size read write) (Ok _) h =
           let d = handle base size read write in
           let g = handle_holds p w base size read write h in
           let k = handle_holds q w' base size read write (sym (build_answer_same d) ∙ h) in

@@ -9,10 +9,8 @@ use borrow.Author.Tests.{lt-ltb, le-ltb, not-false}
 use lib.ListN.{length}
 use Rattle.lists.specs.Lists.{any_of, first_index, without_first, remove_at}
 use Rattle.lists.specs.Refusals.{first_met}
-use Rattle.lists.proofs.Laws.{any_none}
+use Rattle.lists.proofs.Laws.{any_none, length-held}
 use Rattle.lists.proofs.Removal.{Loses, without_none, without_member, without_ascending, left_within, left-held, left_places, left_loses, held_at, one_fewer, remove_place}
-use Rattle.stage2_range.specs.declared.Stage2Result.{Stage2Result}
-use Rattle.stage2_range.specs.declared.Stage2Result.TheVariants.{Accepted, Refused}
 use Rattle.stage2_range.specs.declared.Stage2ConfigError.TheVariants.{RangeNotHeld}
 use Rattle.stage2_range.specs.declared.PageRange.{PageRange}
 use Rattle.stage2_range.specs.declared.Stage2Range.{Stage2Range}
@@ -25,6 +23,9 @@ use Rattle.stage2.specs.Policy.{allowed_held, regions_held, built_by, range_held
 use Rattle.stage2.specs.Builds.{CanRelease, AllApart, Disjoint, SameHeld, WellFormed}
 use Rattle.stage2.proofs.Laws.{built_answer, built_refused}
 use Rattle.stage2.proofs.Held.{same-held}
+use Rattle.lists.proofs.Places.{found_at, found_nowhere}
+use Rattle.std.specs.Prelude.{position, None, Some, Err, Ok, Result, ⊤}
+use Rattle.stage2_range.specs.declared.Stage2ConfigError.{Stage2ConfigError}
 
 module _ (p : Policy) (base size : ℕ) where
   -- what a release answers
@@ -42,19 +43,26 @@ module _ (p : Policy) (base size : ℕ) where
   unfolding release_answer validate_range
   release_splits = answer_after_lem (range_cases base size) (not_held_cases p base size)
 
+  -- what a refusal of the arguments answers, and what answers past them
+  pub release_unfit : (e : Stage2ConfigError) → validate_range base size ≡ Err e → release_answer p base size ≡ Err e
+  release_unfit e h = rw (release_splits, h)
+
+  pub release_past : validate_range base size ≡ Ok tt → release_answer p base size ≡ answer_of (not_held_cases p base size)
+  release_past h = rw (release_splits, h)
+
   -- "A refusal returns its number .., and all state is as before"
   pub release_refused : (result_number (release_range p base size).answer ≡ 0 → ⊥) → (release_range p base size).policy ≡ p
   unfolding release_range
   release_refused h = built_refused (release_answer p base size) p (without_range p base size) h
 
   -- A range is released exactly where its arguments fit and a record with them is held.
-  pub release_accepted : (release_range p base size).answer ≡ Accepted → CanRelease p base size
+  pub release_accepted : (release_range p base size).answer ≡ Ok tt → CanRelease p base size
   release_accepted h =
       let a = not_after (validate_range base size) _ (sym (release_answer_lem ∙ release_splits) ∙ h) in
       let unmet = accepted_unmet (not_held_cases p base size) a.1 in
       record { fits = accepted_valid base size a.0; is_held = not-false _ unmet.0 }
 
-  pub can_release : CanRelease p base size → release_range p base size ≡ record { answer = Accepted; policy = without_range p base size }
+  pub can_release : CanRelease p base size → release_range p base size ≡ record { answer = Ok tt; policy = without_range p base size }
   unfolding release_range
   can_release c = rw (release_splits, valid_accepted base size c.fits, c.is_held)
 
@@ -73,9 +81,9 @@ module _ (p : Policy) (base size : ℕ) where
       → (range_held p base size ≡ false → region_held p base size ≡ true → P (without_region p base size)) → P (release_range p base size).policy
   by_answer P kept f g = go (release_range p base size).answer refl
     where
-      go : (s : Stage2Result) → (release_range p base size).answer ≡ s → P (release_range p base size).policy
-      go Accepted h = by_list P (release_accepted h) f g
-      go (Refused e) h = rw (release_refused (λ z. error_not_zero e (sym (ap result_number h) ∙ z))) kept
+      go : (s : Result ⊤ Stage2ConfigError) → (release_range p base size).answer ≡ s → P (release_range p base size).policy
+      go (Ok _) h = by_list P (release_accepted h) f g
+      go (Err e) h = rw (release_refused (λ z. error_not_zero e (sym (ap result_number h) ∙ z))) kept
 
 -- Policies with 32 and 16 places, as arrays have them, with counts and records as they may be.
 module _ (p : Policy) (base size : ℕ) (full : 32 ≤ length p.allowed) (full' : 16 ≤ length p.regions) where
@@ -104,7 +112,7 @@ module _ (p : Policy) (base size : ℕ) (full : 32 ≤ length p.allowed) (full' 
 
   pub range_goes : range_place < min p.allowed_count 32
       → built_by (answer_of (not_held_cases p base size)) p (without_range p base size) ≡ record {
-        answer = Accepted;
+        answer = Ok tt;
         policy = record {
           allowed = remove_at p.allowed (min p.allowed_count 32) range_place;
           allowed_count = min p.allowed_count 32 - 1;
@@ -125,7 +133,7 @@ module _ (p : Policy) (base size : ℕ) (full : 32 ≤ length p.allowed) (full' 
   -- .. or no range and a region does, ..
   pub region_goes : min p.allowed_count 32 ≤ range_place → region_place < min p.region_count 16
       → built_by (answer_of (not_held_cases p base size)) p (without_range p base size) ≡ record {
-        answer = Accepted;
+        answer = Ok tt;
         policy = record {
           allowed = p.allowed;
           allowed_count = p.allowed_count;
@@ -146,12 +154,74 @@ module _ (p : Policy) (base size : ℕ) (full : 32 ≤ length p.allowed) (full' 
 
   -- .. or nothing does
   pub none_goes : min p.allowed_count 32 ≤ range_place → min p.region_count 16 ≤ region_place
-      → built_by (answer_of (not_held_cases p base size)) p (without_range p base size) ≡ record { answer = Refused RangeNotHeld; policy = p }
+      → built_by (answer_of (not_held_cases p base size)) p (without_range p base size) ≡ record { answer = Err RangeNotHeld; policy = p }
   none_goes h k =
       rw (
         held_at (is_range base size) 32 p.allowed_count p.allowed full ∙ le-ltb _ _ h,
         held_at (is_region base size) 16 p.region_count p.regions full' ∙ le-ltb _ _ k,
       )
+
+  -- The same by the library's `position` among the ranges that are held, ..
+  module _ {ranges : List Stage2Range} (are_held : ranges ≡ allowed_held p) where
+    ranges_length : length ranges ≡ min p.allowed_count 32
+    ranges_length = ap length are_held ∙ length-held 32 p.allowed_count p.allowed full
+
+    ranges_place : first_index (is_range base size) ranges ≡ range_place
+    ranges_place = ap (first_index (is_range base size)) are_held
+
+    module _ {at : ℕ} (found : position (is_range base size) ranges ≡ Some at) where
+      pub range_within : (at < length ranges) × (length ranges ≤ length p.allowed)
+      range_within = ((found_at (is_range base size) ranges at found).0, omega (arith, ranges_length))
+
+      pub range_found : record {
+        answer = Ok tt;
+        policy = record {
+          allowed = remove_at p.allowed (length ranges) at;
+          allowed_count = length ranges - 1;
+          regions = p.regions;
+          region_count = p.region_count;
+        };
+      } ≡ built_by (answer_of (not_held_cases p base size)) p (without_range p base size)
+      range_found =
+          let f = found_at (is_range base size) ranges at found in
+          let place : at ≡ range_place = sym f.1 ∙ ranges_place in
+          rw (ranges_length, place) (sym (range_goes (omega (arith, f.0, place, ranges_length))))
+
+    range_missed : position (is_range base size) ranges ≡ None → min p.allowed_count 32 ≤ range_place
+    range_missed none = omega (arith, found_nowhere (is_range base size) ranges none, ranges_length, ranges_place)
+
+    -- .. and the regions
+    module _ {regions : List MemoryAccessRegion} (regions_are_held : regions ≡ regions_held p) (no_range : position (is_range base size) ranges ≡ None) where
+      regions_length : length regions ≡ min p.region_count 16
+      regions_length = ap length regions_are_held ∙ length-held 16 p.region_count p.regions full'
+
+      regions_place : first_index (is_region base size) regions ≡ region_place
+      regions_place = ap (first_index (is_region base size)) regions_are_held
+
+      module _ {at : ℕ} (found : position (is_region base size) regions ≡ Some at) where
+        pub region_within : (at < length regions) × (length regions ≤ length p.regions)
+        region_within = ((found_at (is_region base size) regions at found).0, omega (arith, regions_length))
+
+        pub region_found : record {
+          answer = Ok tt;
+          policy = record {
+            allowed = p.allowed;
+            allowed_count = p.allowed_count;
+            regions = remove_at p.regions (length regions) at;
+            region_count = length regions - 1;
+          };
+        } ≡ built_by (answer_of (not_held_cases p base size)) p (without_range p base size)
+        region_found =
+            let f = found_at (is_region base size) regions at found in
+            let place : at ≡ region_place = sym f.1 ∙ regions_place in
+            rw (regions_length, place) (sym (region_goes (range_missed no_range) (omega (arith, f.0, place, regions_length))))
+
+      pub none_found : position (is_region base size) regions ≡ None
+          → record { answer = Err RangeNotHeld; policy = p } ≡ built_by (answer_of (not_held_cases p base size)) p (without_range p base size)
+      none_found none =
+          sym (none_goes (range_missed no_range) (omega (arith, found_nowhere (is_region base size) regions none, regions_length, regions_place)))
+
+pub ruleset release_by_arguments = (release_unfit, release_past)
 
 -- In any state: the allowed ranges lose their first match, and nothing else changes, ..
 pub record AllowedLose (p q : Policy) (base size : ℕ) : Type 0 where
@@ -167,7 +237,7 @@ pub record RegionsLose (p q : Policy) (base size : ℕ) : Type 0 where
   pub allowed_count_kept : q.allowed_count ≡ p.allowed_count
 
 pub release_one : (p : Policy) (base size : ℕ) → 32 ≤ length p.allowed → 16 ≤ length p.regions
-    → (release_range p base size).answer ≡ Accepted
+    → (release_range p base size).answer ≡ Ok tt
     → let q = (release_range p base size).policy in
     AllowedLose p q base size ⊎ RegionsLose p q base size
 unfolding without_allowed without_region
@@ -251,9 +321,9 @@ module _ (p : Policy) (base size : ℕ) (w : WellFormed p) where
   release_keeps = by_answer p base size WellFormed w (λ e. without_allowed_keeps) (λ e k. without_region_keeps)
 
 -- the first where the arguments fit, else the second
-abbrev pub where_valid : {A : Type 0} → Stage2Result → A → A → A
-where_valid Accepted x y = x
-where_valid (Refused e) x y = y
+abbrev pub where_valid : {A : Type 0} → Result ⊤ Stage2ConfigError → A → A → A
+where_valid (Ok _) x y = x
+where_valid (Err e) x y = y
 
 -- the lists held after a release, by those held before: a list without a match stays as it was, so this is so of a refusal too
 abbrev pub allowed_after : ℕ → ℕ → List Stage2Range → List Stage2Range
@@ -271,7 +341,7 @@ module _ (p : Policy) (base size : ℕ) (full : 32 ≤ length p.allowed) (full' 
   -- where the arguments fit
   valid_holds : (a b : Bool) → range_held p base size ≡ a → region_held p base size ≡ b
       → Holds (without_first (is_range base size) (allowed_held p)) (cond a (regions_held p) (without_first (is_region base size) (regions_held p)))
-      (built_by (cond (not (a || b)) (Refused RangeNotHeld) Accepted) p (cond a (without_allowed p base size) (without_region p base size))).policy
+      (built_by (cond (not (a || b)) (Err RangeNotHeld) (Ok tt)) p (cond a (without_allowed p base size) (without_region p base size))).policy
   unfolding without_allowed without_region
   valid_holds true b e k = (allowed_without p base size full full', refl)
   valid_holds false true e k =
@@ -286,12 +356,12 @@ module _ (p : Policy) (base size : ℕ) (full : 32 ≤ length p.allowed) (full' 
   unfolding release_range
   release_holds = rw (release_splits p base size) (go (validate_range base size))
     where
-      go : (v : Stage2Result)
+      go : (v : Result ⊤ Stage2ConfigError)
           → Holds (where_valid v (without_first (is_range base size) (allowed_held p)) (allowed_held p))
           (where_valid v (cond (range_held p base size) (regions_held p) (without_first (is_region base size) (regions_held p))) (regions_held p))
           (built_by (after v (answer_of (not_held_cases p base size))) p (without_range p base size)).policy
-      go Accepted = valid_holds (range_held p base size) (region_held p base size) refl refl
-      go (Refused e) = (refl, refl)
+      go (Ok _) = valid_holds (range_held p base size) (region_held p base size) refl refl
+      go (Err e) = (refl, refl)
 
 -- Policies that hold the same answer a release the same, and hold the same after it.
 module _ (p q : Policy) (same : SameHeld p q) (base size : ℕ) where

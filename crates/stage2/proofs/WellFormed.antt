@@ -13,13 +13,9 @@ use lib.Seq.{length-take-le, take-suc-set}
 use Rattle.lists.specs.Lists.{held, insert_before}
 use Rattle.lists.proofs.Laws.{held_within, length_insert, insert_end, inserted_all, insert_ascending}
 use Rattle.memory_access.specs.declared.Ipa.{Ipa}
-use Rattle.stage2_range.specs.declared.Stage2Result.{Stage2Result}
-use Rattle.stage2_range.specs.declared.Stage2Result.TheVariants.{Accepted, Refused}
 use Rattle.stage2_range.specs.declared.PageRange.{PageRange}
 use Rattle.stage2_range.specs.declared.Stage2Range.{Stage2Range}
 use Rattle.stage2_range.specs.declared.MemoryAccessRegion.{MemoryAccessRegion}
-use Rattle.stage2_range.specs.declared.RegionFound.{RegionFound}
-use Rattle.stage2_range.specs.declared.RegionFound.TheVariants.{Nothing, Match}
 use Rattle.stage2_range.specs.Ranges.{ValidRange, page_range, has_byte, shares_byte, range_of, range_bytes, result_number}
 use Rattle.stage2_range.specs.Registry.{region_of, region_bytes, has_address, find_region, insert_region}
 use Rattle.stage2_range.proofs.Ranges.{shares_sym, apart_byte, valid_byte, error_not_zero}
@@ -28,6 +24,9 @@ use Rattle.stage2.specs.declared.Policy.{Policy}
 use Rattle.stage2.specs.Policy.{allowed_held, regions_held, fresh_policy, add_allowed, add_region}
 use Rattle.stage2.specs.Builds.{BuilderCall, allow, handle, build, build_all, CanAllow, CanHandle, AllApart, Disjoint, WellFormed}
 use Rattle.stage2.proofs.Laws.{build-refused, allow_accepted, can_allow, handle_accepted, can_handle}
+use Rattle.std.specs.Prelude.{Err, None, Ok, Option, Result, Some, ⊤}
+use Rattle.stage2_range.specs.declared.MemoryAccessHandlerMatch.{MemoryAccessHandlerMatch}
+use Rattle.stage2_range.specs.declared.Stage2ConfigError.{Stage2ConfigError}
 
 -- Records that share no byte: an insertion keeps them so, and two of them that have a byte in common are one.
 module _ {A : Type 0} (bytes_of : A → PageRange) where
@@ -165,12 +164,12 @@ fresh_well_formed = record {
 pub build_keeps : (p : Policy) (c : BuilderCall) → WellFormed p → WellFormed (build p c).policy
 build_keeps p c w = go c (build p c).answer refl
   where
-    go : (d : BuilderCall) (s : Stage2Result) → (build p d).answer ≡ s → WellFormed (build p d).policy
-    go d (Refused e) h = rw (build-refused p d (λ z. error_not_zero e (sym (ap result_number h) ∙ z))) w
-    go (allow base size attributes) Accepted h =
+    go : (d : BuilderCall) (s : Result ⊤ Stage2ConfigError) → (build p d).answer ≡ s → WellFormed (build p d).policy
+    go d (Err e) h = rw (build-refused p d (λ z. error_not_zero e (sym (ap result_number h) ∙ z))) w
+    go (allow base size attributes) (Ok _) h =
         let k = allow_accepted p base size attributes h in
         rw (can_allow p base size attributes k) (allow_keeps p base size attributes w k)
-    go (handle base size read write) Accepted h =
+    go (handle base size read write) (Ok _) h =
         let k = handle_accepted p base size read write h in
         rw (can_handle p base size read write k) (handle_keeps p base size read write w k)
 
@@ -183,13 +182,13 @@ built_well_formed calls = build_all_keeps fresh_policy calls fresh_well_formed
 
 -- the regions of a well-formed policy share no byte, so the one that has an address is found
 pub find_exact : (p : Policy) → WellFormed p → (r : MemoryAccessRegion) → Memᴰ r (regions_held p) → (ipa : Ipa)
-    → has_address ipa.0 r ≡ true → find_region (regions_held p) ipa ≡ Match (record { region = r; offset = ipa.0 - r.base_ipa })
+    → has_address ipa.0 r ≡ true → find_region (regions_held p) ipa ≡ Some (record { region = r; offset = ipa.0 - r.base_ipa })
 find_exact p w r m ipa h = go (find_region (regions_held p) ipa) refl
   where
-    go : (f : RegionFound) → find_region (regions_held p) ipa ≡ f
-        → find_region (regions_held p) ipa ≡ Match (record { region = r; offset = ipa.0 - r.base_ipa })
-    go Nothing e = absurd (true≢false (sym h ∙ find_none (regions_held p) ipa e r m))
-    go (Match x) e =
+    go : (f : Option MemoryAccessHandlerMatch) → find_region (regions_held p) ipa ≡ f
+        → find_region (regions_held p) ipa ≡ Some (record { region = r; offset = ipa.0 - r.base_ipa })
+    go None e = absurd (true≢false (sym h ∙ find_none (regions_held p) ipa e r m))
+    go (Some x) e =
         let f = find-held (regions_held p) ipa x e in
         let apart = w.regions_disjoint.apart in
         let s : x.region ≡ r = same-with_byte region_bytes ipa.0 x.region r f.1 h (regions_held p) apart f.0 m in

@@ -1,12 +1,10 @@
 -- The stage-2 policy and the calls that build it (document 01, "Range and region" and its table of refusals). Policies handed in may hold
 -- anything. Assumes nothing.
-use Rattle.std.specs.Prelude.{ℕ, ◌+◌, Bool, not, ◌&&◌, ◌||◌, cond, List, [], ◌∷◌, ◌++◌, leb, length, set, replicate}
+use Rattle.std.specs.Prelude.{ℕ, ◌+◌, Bool, not, ◌&&◌, ◌||◌, cond, List, [], ◌∷◌, ◌++◌, leb, length, set, replicate, Err, Ok, Result, ⊤}
 use Rattle.lists.specs.Lists.{held, any_of, without_first, in_first_places}
 use Rattle.lists.specs.Refusals.{Case, case}
 use Rattle.stage2_range.specs.declared.Stage2ConfigError.{Stage2ConfigError}
 use Rattle.stage2_range.specs.declared.Stage2ConfigError.TheVariants.{TooManyAllowedRanges, AllowedRangeOverlap, AllowedRangeOverlapsMemoryAccessHandler, UnknownMemoryHandler, RangeNotHeld}
-use Rattle.stage2_range.specs.declared.Stage2Result.{Stage2Result}
-use Rattle.stage2_range.specs.declared.Stage2Result.TheVariants.{Accepted, Refused}
 use Rattle.stage2_range.specs.declared.PageRange.{PageRange}
 use Rattle.stage2_range.specs.declared.Stage2Range.{Stage2Range}
 use Rattle.stage2_range.specs.declared.MemoryAccessRegion.{MemoryAccessRegion}
@@ -34,9 +32,9 @@ abbrev pub regions_held : Policy → List MemoryAccessRegion
 regions_held p = held 16 p.region_count p.regions
 
 -- "A refusal returns its number .., and all state is as before"
-abbrev pub built_by : Stage2Result → Policy → Policy → Built
-built_by Accepted before next = record { answer = Accepted; policy = next }
-built_by (Refused error) before next = record { answer = Refused error; policy = before }
+abbrev pub built_by : Result ⊤ Stage2ConfigError → Policy → Policy → Built
+built_by (Ok _) before next = record { answer = Ok tt; policy = next }
+built_by (Err error) before next = record { answer = Err error; policy = before }
 
 -- refusals 5 to 7: "32 allowed", "shares a byte with an allowed range", "allowing, shares a byte with a region"
 abbrev pub allow_cases : Policy → PageRange → List (Case Stage2ConfigError)
@@ -47,7 +45,7 @@ allow_cases p bytes =
     ∷ []
 
 -- what `allow_range` answers: "allow 1 to 7 in order"
-unfoldable pub allow_answer : Policy → ℕ → ℕ → Stage2Result
+unfoldable pub allow_answer : Policy → ℕ → ℕ → Result ⊤ Stage2ConfigError
 allow_answer p base size = answer_of (range_cases base size ++ allow_cases p (page_range base size))
 
 -- an allowed range stands after those that came before it
@@ -73,7 +71,7 @@ handle_cases p bytes =
     case AllowedRangeOverlap (overlaps_allowed (allowed_held p) bytes) ∷ register_cases p.regions p.region_count bytes
 
 -- what `handle_range` answers: "handle 20, 1 to 4, 6, 8, 9"
-unfoldable pub handle_answer : Policy → ℕ → ℕ → ℕ → ℕ → Stage2Result
+unfoldable pub handle_answer : Policy → ℕ → ℕ → ℕ → ℕ → Result ⊤ Stage2ConfigError
 handle_answer p base size read write =
     answer_of (half_cases read write ++ (range_cases base size ++ handle_cases p (page_range base size)))
 
@@ -106,7 +104,7 @@ abbrev pub release_cases : Policy → ℕ → ℕ → List (Case Stage2ConfigErr
 release_cases p base size = range_cases base size ++ not_held_cases p base size
 
 -- what it answers
-unfoldable pub release_answer : Policy → ℕ → ℕ → Stage2Result
+unfoldable pub release_answer : Policy → ℕ → ℕ → Result ⊤ Stage2ConfigError
 release_answer p base size = answer_of (release_cases p base size)
 
 -- the policy without its first allowed range with this base and size: those left stand in the first places, in their order, and their

@@ -3,7 +3,7 @@ use Prim.Native.Nat.{ℕ, ◌+◌, ◌-◌, ◌%◌, ◌^◌, ◌≤◌, ◌<◌
 use mathlib.Core.Path.{◌≡◌, refl, sym, ◌∙◌, ap}
 use Rattle.std.proofs.Common.{◌≢◌}
 use mathlib.Core.Bool.{Bool, true, false, ◌&&◌, cond, true≢false}
-use mathlib.Core.List.{List, ◌++◌, Memᴰ}
+use mathlib.Core.List.{List, [], ◌∷◌, ◌++◌, Memᴰ}
 use native.Mathlib.Omega.{arith}
 use borrow.Author.Tests.{lt-ltb, le-ltb, le-leb, eq-eqb, ne_eqb, ltb-true, ltb-false, leb-true, eqb-true, eqb-false, not-false}
 use lib.Dec.{ltb, leb, lit≤}
@@ -17,11 +17,10 @@ use Rattle.lists.proofs.Laws.{FirstLeft, first-here, first-later, first_none, an
 use Rattle.lists.proofs.Every.{Every, all_every}
 use Rattle.stage2_range.specs.declared.Stage2ConfigError.{Stage2ConfigError}
 use Rattle.stage2_range.specs.declared.Stage2ConfigError.TheVariants.{RangeBaseNotPageAligned, EmptyRange, RangeSizeNotPageMultiple, RangeEndOverflow, TooManyAllowedRanges, AllowedRangeOverlap, AllowedRangeOverlapsMemoryAccessHandler, TooManyMemoryAccessHandlerRegions, MemoryAccessHandlerRangeOverlap, UnknownMemoryHandler, InvalidDevicetree, UnsupportedCellCounts, RangeNotHeld}
-use Rattle.stage2_range.specs.declared.Stage2Result.{Stage2Result}
-use Rattle.stage2_range.specs.declared.Stage2Result.TheVariants.{Accepted, Refused}
 use Rattle.stage2_range.specs.declared.PageRange.{PageRange}
-use Rattle.stage2_range.specs.declared.AlignedUp.TheVariants.{Address, NoPageAbove}
 use Rattle.stage2_range.specs.Ranges.{after, largest_end, answer_of, range_cases, validate_range, ValidRange, error_number, result_number, page_range, has_byte, shares_byte, overlaps, align_down, align_up, aligned_number}
+use Rattle.std.specs.List.{list_any}
+use Rattle.std.specs.Prelude.{◌||◌, Err, None, Ok, Result, Some, ⊤, is_err}
 
 -- two tests that imply each other are equal
 test_ext : (t u : Bool) → (t ≡ true → u ≡ true) → (u ≡ true → t ≡ true) → t ≡ u
@@ -175,6 +174,18 @@ module _ {A : Type 0} (bytes_of : A → PageRange) (records : List A) (bytes : P
   pub overlaps_told : {r : PageRange} {t v : Bool} → t ≡ overlaps bytes_of records r → r ≡ bytes → t ≡ v → overlaps bytes_of records bytes ≡ v
   overlaps_told e f h = ap (overlaps bytes_of records) (sym f) ∙ sym e ∙ h
 
+-- as the library's `any` looks for it
+pub overlaps_any : {A : Type 0} (bytes_of : A → PageRange) (bytes : PageRange) (records : List A)
+    → overlaps bytes_of records bytes ≡ list_any (λ x. shares_byte (bytes_of x) bytes) records
+unfolding overlaps
+overlaps_any bytes_of bytes [] = refl
+overlaps_any bytes_of bytes (x ∷ xs) = go (shares_byte (bytes_of x) bytes) (overlaps_any bytes_of bytes xs)
+  where
+    go : (b : Bool) → overlaps bytes_of xs bytes ≡ list_any (λ y. shares_byte (bytes_of y) bytes) xs
+        → cond b true (overlaps bytes_of xs bytes) ≡ (b || list_any (λ y. shares_byte (bytes_of y) bytes) xs)
+    go true e = refl
+    go false e = e
+
 -- A loop looks for an overlap among the first `m` records of an array: at place `i` those not yet passed decide.
 abbrev pub OverlapLeft : {A : Type 0} → (A → PageRange) → PageRange → List A → ℕ → ℕ → Bool → Type 0
 OverlapLeft bytes_of bytes array m i v = FirstLeft (λ x. shares_byte (bytes_of x) bytes) (λ x. true) false array m i v
@@ -194,30 +205,30 @@ module _ {A : Type 0} (bytes_of : A → PageRange) (bytes : PageRange) where
     overlap_later h = first-later inv below full d (shares_told bytes tested read h)
 
 -- a refusal does not accept
-pub not-accepted : (e : Stage2ConfigError) → Refused e ≡ Accepted → ⊥
-not-accepted e h = let z : ◌≡◌ {A = ℕ} 0 1 = cc in omega arith
+pub not-accepted : (e : Stage2ConfigError) → ◌≡◌ {A = Result ⊤ Stage2ConfigError} (Err e) (Ok tt) → ⊥
+not-accepted e h = true≢false (ap is_err h)
 
 -- where neither of two answers is a refusal, each accepts
-pub not_after : (first rest : Stage2Result) → after first rest ≡ Accepted → (first ≡ Accepted) × (rest ≡ Accepted)
-not_after Accepted rest h = (refl, h)
-not_after (Refused e) rest h = absurd (not-accepted e h)
+pub not_after : (first rest : Result ⊤ Stage2ConfigError) → after first rest ≡ Ok tt → (first ≡ Ok tt) × (rest ≡ Ok tt)
+not_after (Ok _) rest h = (refl, h)
+not_after (Err e) rest h = absurd (not-accepted e h)
 
 -- What a table of refusals answers.
 module _ (cases : List (Case Stage2ConfigError)) where
   -- its number: first met wins
   pub answer_number_lem : result_number (answer_of cases) ≡ first_met error_number 0 cases
-  answer_number_lem = met-map Refused Accepted result_number cases
+  answer_number_lem = met-map Err (Ok tt) result_number cases
 
   -- with more lines at its end, these answer where it accepts
   pub answer_after_lem : (more : List (Case Stage2ConfigError)) → answer_of (cases ++ more) ≡ after (answer_of cases) (answer_of more)
-  answer_after_lem more = met-append Refused Accepted cases more ∙ sym (met-map Refused Accepted (λ s. after s (answer_of more)) cases)
+  answer_after_lem more = met-append Err (Ok tt) cases more ∙ sym (met-map Err (Ok tt) (λ s. after s (answer_of more)) cases)
 
   -- where it accepts, no case is met
-  pub accepted_unmet : answer_of cases ≡ Accepted → Every (λ c. c.met ≡ false) cases
-  accepted_unmet h = all_every _ cases (first_none met _ Accepted (λ c t. not-accepted c.refusal) cases h)
+  pub accepted_unmet : answer_of cases ≡ Ok tt → Every (λ c. c.met ≡ false) cases
+  accepted_unmet h = all_every _ cases (first_none met _ (Ok tt) (λ c t. not-accepted c.refusal) cases h)
 
 -- A range is accepted exactly where it is valid.
-pub accepted_valid : (base size : ℕ) → validate_range base size ≡ Accepted → ValidRange base size
+pub accepted_valid : (base size : ℕ) → validate_range base size ≡ Ok tt → ValidRange base size
 unfolding validate_range
 accepted_valid base size h =
     let unmet = accepted_unmet (range_cases base size) h in
@@ -228,7 +239,7 @@ accepted_valid base size h =
       ends = ltb-false _ _ unmet.1.1.1.0;
     }
 
-pub valid_accepted : (base size : ℕ) → ValidRange base size → validate_range base size ≡ Accepted
+pub valid_accepted : (base size : ℕ) → ValidRange base size → validate_range base size ≡ Ok tt
 unfolding validate_range
 valid_accepted base size v =
     rw (
@@ -240,24 +251,24 @@ valid_accepted base size v =
 
 -- What each test of a base and a size says, past those before it.
 module _ (base size : ℕ) where
-  pub base_refused : base % 4096 ≢ 0 → validate_range base size ≡ Refused RangeBaseNotPageAligned
+  pub base_refused : base % 4096 ≢ 0 → validate_range base size ≡ Err RangeBaseNotPageAligned
   unfolding validate_range
   base_refused b = simp (ne_eqb _ _ b)
 
-  pub empty_refused : base % 4096 ≡ 0 → size ≡ 0 → validate_range base size ≡ Refused EmptyRange
+  pub empty_refused : base % 4096 ≡ 0 → size ≡ 0 → validate_range base size ≡ Err EmptyRange
   unfolding validate_range
   empty_refused b s = simp (eq-eqb _ _ b, eq-eqb _ _ s)
 
-  pub size_refused : base % 4096 ≡ 0 → size ≢ 0 → size % 4096 ≢ 0 → validate_range base size ≡ Refused RangeSizeNotPageMultiple
+  pub size_refused : base % 4096 ≡ 0 → size ≢ 0 → size % 4096 ≢ 0 → validate_range base size ≡ Err RangeSizeNotPageMultiple
   unfolding validate_range
   size_refused b s m = simp (eq-eqb _ _ b, ne_eqb _ _ s, ne_eqb _ _ m)
 
   pub end_refused : base % 4096 ≡ 0 → size ≢ 0 → size % 4096 ≡ 0 → largest_end < base + size
-      → validate_range base size ≡ Refused RangeEndOverflow
+      → validate_range base size ≡ Err RangeEndOverflow
   unfolding validate_range
   end_refused b s m e = simp (eq-eqb _ _ b, ne_eqb _ _ s, eq-eqb _ _ m, lt-ltb _ _ e)
 
-  pub range_accepted : base % 4096 ≡ 0 → size ≢ 0 → size % 4096 ≡ 0 → base + size ≤ largest_end → validate_range base size ≡ Accepted
+  pub range_accepted : base % 4096 ≡ 0 → size ≢ 0 → size % 4096 ≡ 0 → base + size ≤ largest_end → validate_range base size ≡ Ok tt
   range_accepted b s m e = valid_accepted base size (record { base_aligned = b; not_empty = s; whole_pages = m; ends = e })
 
 -- "1 to 4 in order", first met wins
@@ -282,16 +293,16 @@ error_not_zero UnsupportedCellCounts h = omega arith
 error_not_zero RangeNotHeld h = omega arith
 
 -- so an answer with the number 0 accepts
-pub zero_accepted : (s : Stage2Result) → result_number s ≡ 0 → s ≡ Accepted
-zero_accepted Accepted e = refl
-zero_accepted (Refused error) e = absurd (error_not_zero error e)
+pub zero_accepted : (s : Result ⊤ Stage2ConfigError) → result_number s ≡ 0 → s ≡ Ok tt
+zero_accepted (Ok _) e = refl
+zero_accepted (Err error) e = absurd (error_not_zero error e)
 
 -- past the last page boundary there is none, and up to it the sum's low bits are cleared
-pub none_above : (address : ℕ) → 2 ^ 64 - 4096 < address → align_up address ≡ NoPageAbove
+pub none_above : (address : ℕ) → 2 ^ 64 - 4096 < address → align_up address ≡ None
 unfolding align_up
 none_above address h = rw (lt-ltb _ _ h)
 
-pub aligned_above : (address : ℕ) → address ≤ 2 ^ 64 - 4096 → align_up address ≡ Address (bit_and (address + 4095) 18446744073709547520)
+pub aligned_above : (address : ℕ) → address ≤ 2 ^ 64 - 4096 → align_up address ≡ Some (bit_and (address + 4095) 18446744073709547520)
 unfolding align_up align_down
 aligned_above address h = simp (le-ltb _ _ h, low_cleared 64 12 (address + 4095) (lit≤ tt) (omega arith))
 

@@ -2,4 +2,3 @@
 pub mod Ranges
 pub mod Handlers
 pub mod Registry
-pub mod Search

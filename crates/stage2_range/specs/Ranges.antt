@@ -1,19 +1,15 @@
 -- Ranges of guest addresses (document 01, "Range and region"; the numbers of its table of refusals). The page size is 4,096. Assumes nothing.
-use Rattle.std.specs.Prelude.{ℕ, ◌+◌, ◌-◌, ◌%◌, ◌^◌, ◌≤◌, min, max, ◌≡◌, Bool, not, ◌&&◌, cond, List, [], ◌∷◌, ltb, leb, eqb}
+use Rattle.std.specs.Prelude.{ℕ, ◌+◌, ◌-◌, ◌%◌, ◌^◌, ◌≤◌, min, max, ◌≡◌, Bool, not, ◌&&◌, cond, List, [], ◌∷◌, ltb, leb, eqb, Err, None, Ok, Option, Result, Some, ⊤, unwrap_or}
 use Rattle.lists.specs.Lists.{any_of}
-use Rattle.lists.specs.Refusals.{Case, case, first_met}
+use Rattle.lists.specs.Refusals.{Case, case, first_met, answer_number, missing_number}
 use Rattle.stage2_range.specs.declared.Stage2ConfigError.{Stage2ConfigError}
 use Rattle.stage2_range.specs.declared.Stage2ConfigError.TheVariants.{RangeBaseNotPageAligned, EmptyRange, RangeSizeNotPageMultiple, RangeEndOverflow, TooManyAllowedRanges, AllowedRangeOverlap, AllowedRangeOverlapsMemoryAccessHandler, TooManyMemoryAccessHandlerRegions, MemoryAccessHandlerRangeOverlap, UnknownMemoryHandler, InvalidDevicetree, UnsupportedCellCounts, RangeNotHeld}
-use Rattle.stage2_range.specs.declared.Stage2Result.{Stage2Result}
-use Rattle.stage2_range.specs.declared.Stage2Result.TheVariants.{Accepted, Refused}
 use Rattle.stage2_range.specs.declared.PageRange.{PageRange}
 use Rattle.stage2_range.specs.declared.Stage2Range.{Stage2Range}
-use Rattle.stage2_range.specs.declared.AlignedUp.{AlignedUp}
-use Rattle.stage2_range.specs.declared.AlignedUp.TheVariants.{Address, NoPageAbove}
 
 -- what a table answers: the first refusal that is met, and accepted where none is
-abbrev pub answer_of : List (Case Stage2ConfigError) → Stage2Result
-answer_of cases = first_met Refused Accepted cases
+abbrev pub answer_of : List (Case Stage2ConfigError) → Result ⊤ Stage2ConfigError
+answer_of cases = first_met Err (Ok tt) cases
 
 -- a number is a whole number of pages
 abbrev pub page_multiple : ℕ → Bool
@@ -33,7 +29,7 @@ range_cases base size =
     ∷ []
 
 -- what a base and a size are answered
-unfoldable pub validate_range : ℕ → ℕ → Stage2Result
+unfoldable pub validate_range : ℕ → ℕ → Result ⊤ Stage2ConfigError
 validate_range base size = answer_of (range_cases base size)
 
 -- the arguments of a call fit: none of 1 to 4 is met
@@ -85,8 +81,8 @@ unfoldable pub align_down : ℕ → ℕ
 align_down address = address - address % 4096
 
 -- the page boundary at or above an address; 18: "rounding up an address above 2^64 - 4,096"
-unfoldable pub align_up : ℕ → AlignedUp
-align_up address = cond (ltb (2 ^ 64 - 4096) address) NoPageAbove (Address (align_down (address + 4095)))
+unfoldable pub align_up : ℕ → Option ℕ
+align_up address = cond (ltb (2 ^ 64 - 4096) address) None (Some (align_down (address + 4095)))
 
 -- the numbers of the refusals in document 01's table
 abbrev pub error_number : Stage2ConfigError → ℕ
@@ -105,21 +101,18 @@ error_number UnsupportedCellCounts = 22
 error_number RangeNotHeld = 23
 
 -- an answer, and where it accepts that of what comes after
-abbrev pub after : Stage2Result → Stage2Result → Stage2Result
-after Accepted rest = rest
-after (Refused e) rest = Refused e
+abbrev pub after : Result ⊤ Stage2ConfigError → Result ⊤ Stage2ConfigError → Result ⊤ Stage2ConfigError
+after (Ok _) rest = rest
+after (Err e) rest = Err e
 
 -- the number of an answer: 0 where it is accepted
-abbrev pub result_number : Stage2Result → ℕ
-result_number Accepted = 0
-result_number (Refused e) = error_number e
+abbrev pub result_number : Result ⊤ Stage2ConfigError → ℕ
+result_number answer = answer_number error_number answer
 
 -- the number of a rounding's answer
-abbrev pub aligned_number : AlignedUp → ℕ
-aligned_number (Address a) = 0
-aligned_number NoPageAbove = 18
+abbrev pub aligned_number : Option ℕ → ℕ
+aligned_number answer = missing_number 18 answer
 
 -- the result field of a rounding: zero in a refusal
-abbrev pub aligned_value : AlignedUp → ℕ
-aligned_value (Address a) = a
-aligned_value NoPageAbove = 0
+abbrev pub aligned_value : Option ℕ → ℕ
+aligned_value answer = unwrap_or answer 0

@@ -1,19 +1,16 @@
 -- The handled regions, held in an array and a count (document 01, "Range and region"). Records handed in may hold anything. Assumes nothing.
-use Rattle.std.specs.Prelude.{ℕ, ◌+◌, ◌-◌, Bool, ◌&&◌, List, [], ◌∷◌, ◌++◌, leb, eqb, take, drop}
+use Rattle.std.specs.Prelude.{ℕ, ◌+◌, ◌-◌, Bool, ◌&&◌, List, [], ◌∷◌, ◌++◌, leb, eqb, take, drop, Err, None, Ok, Option, Result, Some, ⊤}
 use Rattle.lists.specs.Lists.{held, first_of, insert_before}
 use Rattle.lists.specs.Refusals.{Case, case}
 use Rattle.memory_access.specs.declared.Ipa.{Ipa}
 use Rattle.stage2_range.specs.declared.Stage2ConfigError.{Stage2ConfigError}
 use Rattle.stage2_range.specs.declared.Stage2ConfigError.TheVariants.{TooManyMemoryAccessHandlerRegions, MemoryAccessHandlerRangeOverlap}
-use Rattle.stage2_range.specs.declared.Stage2Result.{Stage2Result}
-use Rattle.stage2_range.specs.declared.Stage2Result.TheVariants.{Accepted, Refused}
 use Rattle.stage2_range.specs.declared.PageRange.{PageRange}
 use Rattle.stage2_range.specs.declared.MemoryAccessRegion.{MemoryAccessRegion}
-use Rattle.stage2_range.specs.declared.RegionFound.{RegionFound}
-use Rattle.stage2_range.specs.declared.RegionFound.TheVariants.{Nothing, Match}
 use Rattle.stage2_range.specs.declared.Registered.{Registered}
 use Rattle.stage2_range.specs.Ranges.{answer_of, page_range, has_byte, overlaps}
 use Rattle.stage2_range.specs.Handlers.{handler_of, handler_number}
+use Rattle.stage2_range.specs.declared.MemoryAccessHandlerMatch.{MemoryAccessHandlerMatch}
 
 -- the region of a base and a size, and the numbers of its handlers
 abbrev pub region_of : ℕ → ℕ → ℕ → ℕ → MemoryAccessRegion
@@ -46,9 +43,9 @@ abbrev pub overlaps_regions : List MemoryAccessRegion → PageRange → Bool
 overlaps_regions regions bytes = overlaps region_bytes regions bytes
 
 -- "`find` answers the first region with base ≤ IPA < end and the offset IPA - base, else none"
-unfoldable pub find_region : List MemoryAccessRegion → Ipa → RegionFound
+unfoldable pub find_region : List MemoryAccessRegion → Ipa → Option MemoryAccessHandlerMatch
 find_region regions ipa =
-    first_of (has_address ipa.0) (λ r. Match (record { region = r; offset = ipa.0 - r.base_ipa })) Nothing regions
+    first_of (has_address ipa.0) (λ r. Some (record { region = r; offset = ipa.0 - r.base_ipa })) None regions
 
 -- "a new region goes before the first whose base is not below its own"; the places past the count as they were
 unfoldable pub insert_region : List MemoryAccessRegion → ℕ → MemoryAccessRegion → List MemoryAccessRegion
@@ -63,15 +60,15 @@ register_cases regions n bytes =
     ∷ []
 
 -- an accepted region is inserted; a refusal leaves the registry as it was
-abbrev pub registered_by : Stage2Result → List MemoryAccessRegion → ℕ → MemoryAccessRegion → Registered
-registered_by Accepted regions n region = record { answer = Accepted; regions = insert_region regions n region; region_count = n + 1 }
-registered_by (Refused e) regions n region = record { answer = Refused e; regions = regions; region_count = n }
+abbrev pub registered_by : Result ⊤ Stage2ConfigError → List MemoryAccessRegion → ℕ → MemoryAccessRegion → Registered
+registered_by (Ok _) regions n region = record { answer = Ok tt; regions = insert_region regions n region; region_count = n + 1 }
+registered_by (Err e) regions n region = record { answer = Err e; regions = regions; region_count = n }
 
 -- the registry after a call
 unfoldable pub register_region : List MemoryAccessRegion → ℕ → MemoryAccessRegion → Registered
 register_region regions n region = registered_by (answer_of (register_cases regions n (region_bytes region))) regions n region
 
 -- the result fields of `find`: 1 where a region is found, its place among those held, and the offset in it; zeros where none is
-abbrev pub found_values : ℕ → RegionFound → List ℕ
-found_values place Nothing = 0 ∷ 0 ∷ 0 ∷ []
-found_values place (Match m) = 1 ∷ place ∷ m.offset ∷ []
+abbrev pub found_values : ℕ → Option MemoryAccessHandlerMatch → List ℕ
+found_values place None = 0 ∷ 0 ∷ 0 ∷ []
+found_values place (Some m) = 1 ∷ place ∷ m.offset ∷ []

@@ -2,13 +2,13 @@
 
 #![tactic(auto)]
 
-ghost use Rattle.std.specs.Prelude.{◌≡◌, ◌≤◌, ◌<◌};
+ghost use Rattle.std.specs.Prelude.{◌≡◌, ℕ, ◌&&◌, eqb, leb, ◌≤◌, ◌<◌, length, position};
 ghost use Rattle.lists.specs.Lists.{held, first_index, insert_at};
-ghost use Rattle.stage2_range.specs.Ranges.{validate_range, error_number, result_number, page_range, has_byte, shares_byte, range_of, range_bytes, range_words, is_range, overlaps_allowed, align_down, align_up, aligned_number, aligned_value};
+ghost use Rattle.stage2_range.specs.Ranges.{overlaps, validate_range, error_number, page_range, has_byte, shares_byte, range_of, range_bytes, range_words, align_down, align_up, aligned_number, aligned_value};
 ghost use Rattle.stage2_range.specs.Handlers.{handler_of, handler_number, is_handler};
-ghost use Rattle.stage2_range.specs.Registry.{region_of, region_bytes, region_words, is_region, overlaps_regions, find_region, register_region};
-ghost use Rattle.stage2_range.specs.Search.{region_fits};
+ghost use Rattle.stage2_range.specs.Registry.{region_of, region_bytes, region_words, has_address, find_region, register_region};
 
+use lists::refusal::{self, Refusal};
 use memory_access::{Ipa, MemoryAccessWidth};
 
 // The most memory access handler regions that a policy holds.
@@ -36,14 +36,8 @@ pub enum Stage2ConfigError {
     RangeNotHeld,
 }
 
-// RITM's `Result<(), Stage2ConfigError>`.
-#[derive(Clone, Copy)]
-pub enum Stage2Result {
-    Accepted,
-    Refused(Stage2ConfigError),
-}
-
-// Who serves the loads or the stores of a region (document 01: a half), where RITM has an optional function.
+// Who serves the loads or the stores of a region (document 01: a half), where RITM has an optional function. (No function: the policy is
+// bytes, in which a number says it.)
 #[derive(Clone, Copy)]
 pub enum MemoryHandler {
     // Nobody, quietly: a load gives 0 and a store is dropped.
@@ -83,6 +77,7 @@ pub struct MemoryWriteAccess {
     pub value: u64,
 }
 
+// (RITM's enums and RITM's names, here and below: a device's fault, where an `Option` would say that there is no value.)
 #[derive(Clone, Copy)]
 pub enum MemoryReadResult {
     Value(u64),
@@ -127,33 +122,18 @@ pub struct MemoryAccessHandlerMatch {
     pub offset: u64,
 }
 
-// What `find_region` answers.
-#[derive(Clone, Copy)]
-pub enum RegionFound {
-    Nothing,
-    Match(MemoryAccessHandlerMatch),
-}
-
-// What `register` answers, and the registry then.
+// What `register` answers, and the registry then, of a refusal too (as `Built` of `stage2`).
 #[derive(Clone, Copy)]
 pub struct Registered {
-    pub answer: Stage2Result,
+    pub answer: Result<(), Stage2ConfigError>,
     pub regions: [MemoryAccessRegion; 16],
     pub region_count: u64,
 }
 
-// What `align_up_to_page` answers.
-#[derive(Clone, Copy)]
-pub enum AlignedUp {
-    Address(u64),
-    NoPageAbove,
-}
+impl Refusal for Stage2ConfigError {
+    ghost number_of = { error_number };
 
-impl Stage2ConfigError {
-    // The refusal's number.
-    pub fn number(self) -> u64
-        ensures { result ≡ error_number self }
-    {
+    fn number(self) -> u64 {
         match self {
             Stage2ConfigError::RangeBaseNotPageAligned => 1,
             Stage2ConfigError::EmptyRange => 2,
@@ -168,40 +148,6 @@ impl Stage2ConfigError {
             Stage2ConfigError::InvalidDevicetree => 21,
             Stage2ConfigError::UnsupportedCellCounts => 22,
             Stage2ConfigError::RangeNotHeld => 23,
-        }
-    }
-}
-
-impl Stage2Result {
-    // The answer's number in the table of refusals.
-    pub fn number(self) -> u64
-        ensures { result ≡ result_number self }
-    {
-        match self {
-            Stage2Result::Accepted => 0,
-            Stage2Result::Refused(e) => e.number(),
-        }
-    }
-}
-
-impl AlignedUp {
-    // The answer's number in the table of refusals.
-    pub fn number(self) -> u64
-        ensures { result ≡ aligned_number self }
-    {
-        match self {
-            AlignedUp::Address(_) => 0,
-            AlignedUp::NoPageAbove => 18,
-        }
-    }
-
-    // The page boundary, 0 where there is none.
-    pub fn value(self) -> u64
-        ensures { result ≡ aligned_value self }
-    {
-        match self {
-            AlignedUp::Address(address) => address,
-            AlignedUp::NoPageAbove => 0,
         }
     }
 }
@@ -221,7 +167,7 @@ impl MemoryHandler {
         }
     }
 
-    // The number that names the handler.
+    // The number that names the handler. (By name, as `from_number`: `u64::from` would not say which number it is.)
     pub fn number(self) -> u64
         ensures { result ≡ handler_number self }
     {
@@ -266,6 +212,57 @@ impl PageRange {
     }
 }
 
+// A record of a policy: an allowed range, or a region.
+pub trait PolicyRecord: Copy {
+    ghost use Rattle.stage2_range.specs.declared.PageRange.{PageRange};
+
+    ghost bytes_of: { Self → PageRange };
+
+    ghost size_of: { Self → ℕ };
+
+    // Its bytes, whatever its size says.
+    fn bytes(self) -> PageRange
+        ensures { result ≡ bytes_of self };
+
+    // Its size, as it is stored.
+    fn size(self) -> u64
+        ensures { result ≡ size_of self };
+}
+
+impl PolicyRecord for Stage2Range {
+    ghost bytes_of = { range_bytes };
+
+    ghost size_of = { λ r. r.size };
+
+    fn bytes(self) -> PageRange {
+        PageRange {
+            base_ipa: self.base_ipa,
+            end_ipa: self.end_ipa,
+        }
+    }
+
+    fn size(self) -> u64 {
+        self.size
+    }
+}
+
+impl PolicyRecord for MemoryAccessRegion {
+    ghost bytes_of = { region_bytes };
+
+    ghost size_of = { λ r. r.size };
+
+    fn bytes(self) -> PageRange {
+        PageRange {
+            base_ipa: self.base_ipa,
+            end_ipa: self.end_ipa,
+        }
+    }
+
+    fn size(self) -> u64 {
+        self.size
+    }
+}
+
 impl Stage2Range {
     // The range of a base and a size.
     pub fn new(base_ipa: u64, size: u64, attributes: u64) -> Self
@@ -280,17 +277,7 @@ impl Stage2Range {
         }
     }
 
-    // Its bytes, whatever its size says.
-    pub fn bytes(self) -> PageRange
-        ensures { result ≡ range_bytes self }
-    {
-        PageRange {
-            base_ipa: self.base_ipa,
-            end_ipa: self.end_ipa,
-        }
-    }
-
-    // Its numbers.
+    // Its numbers, as a recorded answer has them.
     pub fn words(self) -> [u64; 4]
         ensures { result ≡ range_words self }
     {
@@ -313,16 +300,6 @@ impl MemoryAccessRegion {
             size,
             handler,
             end_ipa: bytes.end_ipa,
-        }
-    }
-
-    // Its bytes, whatever its size says.
-    pub fn bytes(self) -> PageRange
-        ensures { result ≡ region_bytes self }
-    {
-        PageRange {
-            base_ipa: self.base_ipa,
-            end_ipa: self.end_ipa,
         }
     }
 
@@ -362,35 +339,49 @@ pub fn align_down_to_page(address: u64) -> u64
 
 // Rounds `address` up to the nearest page boundary. (The test stands before the sum, so that the sum fits a word.)
 #[tactic(auto, using(crate::proofs::Ranges::none_above, crate::proofs::Ranges::aligned_above))]
-pub fn align_up_to_page(address: u64) -> AlignedUp
+pub fn align_up_to_page(address: u64) -> Option<u64>
     ensures { result ≡ align_up address }
 {
     if 0xFFFF_FFFF_FFFF_F000 < address {
-        AlignedUp::NoPageAbove
+        None
     } else {
         let sum = address + (STAGE2_PAGE_SIZE - 1);
-        AlignedUp::Address(sum & STAGE2_PAGE_MASK)
+        Some(sum & STAGE2_PAGE_MASK)
     }
+}
+
+// The number of a rounding's answer in the table of refusals: 18 where there is no page boundary above. (As `decoded_number`.)
+pub fn aligned_number(aligned: Option<u64>) -> u64
+    ensures { result ≡ aligned_number aligned }
+{
+    refusal::missing_number(aligned, 18)
+}
+
+// The page boundary, 0 where there is none.
+pub fn aligned_value(aligned: Option<u64>) -> u64
+    ensures { result ≡ aligned_value aligned }
+{
+    aligned.unwrap_or(0)
 }
 
 // Refusals 1 to 4, in order.
 #[tactic(auto, using(crate::proofs::Ranges::base_refused, crate::proofs::Ranges::empty_refused, crate::proofs::Ranges::size_refused, crate::proofs::Ranges::end_refused, crate::proofs::Ranges::range_accepted))]
-pub fn validate_range(base_ipa: u64, size: u64) -> Stage2Result
+pub fn validate_range(base_ipa: u64, size: u64) -> Result<(), Stage2ConfigError>
     ensures { result ≡ validate_range base_ipa size }
 {
     if base_ipa % STAGE2_PAGE_SIZE != 0 {
-        return Stage2Result::Refused(Stage2ConfigError::RangeBaseNotPageAligned);
+        return Err(Stage2ConfigError::RangeBaseNotPageAligned);
     }
     if size == 0 {
-        return Stage2Result::Refused(Stage2ConfigError::EmptyRange);
+        return Err(Stage2ConfigError::EmptyRange);
     }
     if size % STAGE2_PAGE_SIZE != 0 {
-        return Stage2Result::Refused(Stage2ConfigError::RangeSizeNotPageMultiple);
+        return Err(Stage2ConfigError::RangeSizeNotPageMultiple);
     }
     if MAX_LAST_IPA - (size - 1) < base_ipa {
-        return Stage2Result::Refused(Stage2ConfigError::RangeEndOverflow);
+        return Err(Stage2ConfigError::RangeEndOverflow);
     }
-    Stage2Result::Accepted
+    Ok(())
 }
 
 // Some byte lies in both ranges: none is empty, and each begins before the other ends.
@@ -404,126 +395,82 @@ pub fn page_ranges_overlap(first: PageRange, second: PageRange) -> bool
         & (second.base_ipa < first.end_ipa)
 }
 
-// Some allowed range that is held shares a byte with the given bytes.
-pub fn overlaps_allowed(ranges: [Stage2Range; 32], allowed_count: u64, bytes: PageRange) -> bool
-    ensures { result ≡ overlaps_allowed (held 32 allowed_count ranges) bytes }
+// The records that an array and a count hold.
+#[tactic(auto, using(crate::proofs::Moves::taken_all), unfolding(lists::specs::Lists::held))]
+pub fn held<T>(records: &[T], count: u64, limit: u64) -> &[T]
+    ensures { result.now ≡ held limit count records.now }
 {
-    let n = lists::held_count(allowed_count, MAX_ALLOWED_RANGES);
-    let mut i: u64 = 0;
-    while i < n {
-        let range = ranges[i as usize];
-        if page_ranges_overlap(range.bytes(), bytes) {
-            return true;
-        }
-        i += 1;
-    }
-    false
+    let n = lists::held_count(count, limit);
+    records.get(..n as usize).unwrap_or(records)
 }
 
-// The place of the first allowed range held with this base and size, and how many are held where none has them.
-pub fn allowed_position(
-    ranges: [Stage2Range; 32],
-    allowed_count: u64,
-    base_ipa: u64,
-    size: u64,
-) -> u64
-    ensures { result ≡ first_index (is_range base_ipa size) (held 32 allowed_count ranges) }
+// Some record shares a byte with the given bytes.
+#[tactic(auto, using(crate::proofs::Ranges::overlaps_any))]
+pub fn overlaps<T: PolicyRecord>(records: &[T], bytes: PageRange) -> bool
+    ensures { result ≡ overlaps T.bytes_of records.now bytes }
 {
-    let n = lists::held_count(allowed_count, MAX_ALLOWED_RANGES);
-    let mut i: u64 = 0;
-    while i < n {
-        let range = ranges[i as usize];
-        if (range.base_ipa == base_ipa) & (range.size == size) {
-            return i;
-        }
-        i += 1;
-    }
-    i
+    records
+        .iter()
+        .any(|held| page_ranges_overlap(held.bytes(), bytes))
 }
 
-// What a search of the regions looks for.
-#[derive(Clone, Copy)]
-enum Sought {
-    // A byte in common with these.
-    Overlap(PageRange),
-    // An address in the region.
-    Address(u64),
-    // A base at or above this one.
-    BaseNotBelow(u64),
-    // This base and this size.
-    Stored(u64, u64),
-}
-
-fn region_fits(region: MemoryAccessRegion, sought: Sought) -> bool
-    ensures { result ≡ region_fits sought region }
+// The place of the first record with this base and size.
+pub fn position<T: PolicyRecord>(records: &[T], base_ipa: u64, size: u64) -> Option<usize>
+    ensures { result ≡ position (λ r. eqb (T.bytes_of r).base_ipa base_ipa && eqb (T.size_of r) size) records.now }
 {
-    match sought {
-        Sought::Overlap(bytes) => page_ranges_overlap(region.bytes(), bytes),
-        Sought::Address(ipa) => region.bytes().has_byte(ipa),
-        Sought::BaseNotBelow(base_ipa) => base_ipa <= region.base_ipa,
-        Sought::Stored(base_ipa, size) => (region.base_ipa == base_ipa) & (region.size == size),
-    }
+    records.iter().position(|held| (held.bytes().base_ipa == base_ipa) & (held.size() == size))
 }
 
-// The place of the first region held that fits, and how many are held where none does.
-fn position(regions: [MemoryAccessRegion; 16], region_count: u64, sought: Sought) -> u64
-    ensures { result ≡ first_index (region_fits sought) (held 16 region_count regions) }
+// The place of the first region that has the address.
+#[tactic(auto, unfolding(crate::specs::Ranges::has_byte))]
+fn address_position(regions: &[MemoryAccessRegion], address: u64) -> Option<usize>
+    ensures { result ≡ position (has_address address) regions.now }
 {
-    let n = lists::held_count(region_count, MAX_MEMORY_ACCESS_HANDLERS);
-    let mut i: u64 = 0;
-    while i < n {
-        let region = regions[i as usize];
-        if region_fits(region, sought) {
-            return i;
-        }
-        i += 1;
-    }
-    i
+    regions
+        .iter()
+        .position(|region| region.bytes().has_byte(address))
 }
 
-// Some region that is held shares a byte with the given bytes.
-pub fn overlaps_regions(
+// The first region of a slice that has the address, and the offset in it.
+#[tactic(auto, using(crate::proofs::Registry::found_within, crate::proofs::Registry::found_base, crate::proofs::Registry::find_here, crate::proofs::Registry::find_nothing))]
+pub fn find_in_slice(regions: &[MemoryAccessRegion], ipa: Ipa) -> Option<MemoryAccessHandlerMatch>
+    ensures { result ≡ find_region regions.now ipa }
+{
+    let at = address_position(regions, ipa.0)?;
+    let region = regions[at];
+    Some(MemoryAccessHandlerMatch {
+        region,
+        offset: ipa.0 - region.base_ipa,
+    })
+}
+
+// The first region held that has the address, and the offset in it. (Array and count apart, as in `register`: together they would be a
+// second policy, and the traps hand on the one policy's.)
+pub fn find_region(
     regions: [MemoryAccessRegion; 16],
     region_count: u64,
-    bytes: PageRange,
-) -> bool
-    ensures { result ≡ overlaps_regions (held 16 region_count regions) bytes }
-{
-    let at = position(regions, region_count, Sought::Overlap(bytes));
-    at < lists::held_count(region_count, MAX_MEMORY_ACCESS_HANDLERS)
-}
-
-// The place of the first region held with this base and size, and how many are held where none has them.
-pub fn region_position(
-    regions: [MemoryAccessRegion; 16],
-    region_count: u64,
-    base_ipa: u64,
-    size: u64,
-) -> u64
-    ensures { result ≡ first_index (is_region base_ipa size) (held 16 region_count regions) }
-{
-    position(regions, region_count, Sought::Stored(base_ipa, size))
-}
-
-// The first region held that has the address, and the offset in it.
-pub fn find_region(regions: [MemoryAccessRegion; 16], region_count: u64, ipa: Ipa) -> RegionFound
+    ipa: Ipa,
+) -> Option<MemoryAccessHandlerMatch>
     ensures { result ≡ find_region (held 16 region_count regions) ipa }
 {
-    let address = ipa.0;
-    let at = position(regions, region_count, Sought::Address(address));
-    if at < lists::held_count(region_count, MAX_MEMORY_ACCESS_HANDLERS) {
-        let region = regions[at as usize];
-        RegionFound::Match(MemoryAccessHandlerMatch {
-            region,
-            offset: address - region.base_ipa,
-        })
-    } else {
-        RegionFound::Nothing
-    }
+    find_in_slice(
+        held(&regions, region_count, MAX_MEMORY_ACCESS_HANDLERS),
+        ipa,
+    )
 }
 
-// Refusals 8 and 9, in order; an accepted region goes before the first whose base is not below its own.
-#[tactic(auto, using(crate::proofs::Registry::register_steps))]
+// Where a region of this base is inserted: before the first region whose base is not below it, or after all. (No option: each is a place.)
+fn insertion_place(regions: &[MemoryAccessRegion], base_ipa: u64) -> usize
+    ensures { result ≡ first_index (λ r. leb base_ipa r.base_ipa) regions.now }
+{
+    regions
+        .iter()
+        .position(|region| base_ipa <= region.base_ipa)
+        .unwrap_or(regions.len())
+}
+
+// Refusals 8 and 9, in order; an accepted region goes to its place by base.
+#[tactic(auto, using(crate::proofs::Registry::register_refusals))]
 pub fn register(
     regions: [MemoryAccessRegion; 16],
     region_count: u64,
@@ -533,45 +480,35 @@ pub fn register(
 {
     if MAX_MEMORY_ACCESS_HANDLERS <= region_count {
         return Registered {
-            answer: Stage2Result::Refused(Stage2ConfigError::TooManyMemoryAccessHandlerRegions),
+            answer: Err(Stage2ConfigError::TooManyMemoryAccessHandlerRegions),
             regions,
             region_count,
         };
     }
-    if overlaps_regions(regions, region_count, region.bytes()) {
+    let held = held(&regions, region_count, MAX_MEMORY_ACCESS_HANDLERS);
+    if overlaps(held, region.bytes()) {
         return Registered {
-            answer: Stage2Result::Refused(Stage2ConfigError::MemoryAccessHandlerRangeOverlap),
+            answer: Err(Stage2ConfigError::MemoryAccessHandlerRangeOverlap),
             regions,
             region_count,
         };
     }
-    let at = position(regions, region_count, Sought::BaseNotBelow(region.base_ipa));
+    let at = insertion_place(held, region.base_ipa);
+    let mut next = regions;
+    insert_at(&mut next, region_count as usize, at, region);
     Registered {
-        answer: Stage2Result::Accepted,
-        regions: place_at(regions, region_count, at, region),
+        answer: Ok(()),
+        regions: next,
         region_count: region_count + 1,
     }
 }
 
-// The region at a place among the first `n`, those from there on one place further.
-fn place_at(
-    regions: [MemoryAccessRegion; 16],
-    n: u64,
-    at: u64,
-    region: MemoryAccessRegion,
-) -> [MemoryAccessRegion; 16]
-    requires { (at ≤ n) × (n < 16) }
-    ensures { result ≡ insert_at regions n at region }
+// Puts one more record at a place among the first `n`, those from there on one place further.
+#[tactic(auto, using(crate::proofs::Moves::insert_moves))]
+fn insert_at<T: Copy>(records: &mut [T], n: usize, at: usize, inserted: T)
+    requires { (at ≤ n) × (n < length records.old) }
+    ensures { records.new ≡ insert_at records.old n at inserted }
 {
-    let mut out = regions;
-    let mut carried = region;
-    let mut i = at;
-    while i < n {
-        let moved = out[i as usize];
-        out[i as usize] = carried;
-        carried = moved;
-        i += 1;
-    }
-    out[n as usize] = carried;
-    out
+    records.copy_within(at..n, at + 1);
+    records[at] = inserted;
 }

@@ -1,60 +1,42 @@
 // Accesses: decoded, and their values at the access width.
-use super::print::{all_given, columns, end_row, number};
+use super::print::{columns, row};
 use exceptions::Core;
-use memory_access::{Decoded, Fipa, MemoryAccess};
+use memory_access::{Fipa, MemoryAccess};
 use std::io;
 
 fn decode(rt: &impl Print, iss: u32, fipa: u64, far: u64) -> io::Result<()> {
-    number(rt, iss as u64)?;
-    number(rt, fipa)?;
-    number(rt, far)?;
-    all_given(rt)?;
     let decoded = MemoryAccess::decode(iss, Fipa(fipa), far);
-    let values = decoded.values();
-    number(rt, decoded.number())?;
-    number(rt, values[0])?;
-    number(rt, values[1])?;
-    number(rt, values[2])?;
-    number(rt, values[3])?;
-    number(rt, values[4])?;
-    number(rt, values[5])?;
-    end_row(rt)
-}
-
-fn loaded(decoded: Decoded, value: u64) -> u64 {
-    match decoded {
-        Decoded::Access(access) => access.extend_read_result(value),
-        Decoded::NoSyndrome => 0,
-    }
+    let [ipa, bits, wnr, register, sse, sf] = memory_access::decoded_values(decoded);
+    let found = [
+        memory_access::decoded_number(decoded),
+        ipa,
+        bits,
+        wnr,
+        register,
+        sse,
+        sf,
+    ];
+    row(rt, &[iss.into(), fipa, far], &found)
 }
 
 fn load(rt: &impl Print, iss: u32, value: u64) -> io::Result<()> {
-    number(rt, iss as u64)?;
-    number(rt, value)?;
-    all_given(rt)?;
-    number(rt, loaded(MemoryAccess::decode(iss, Fipa(0), 0), value))?;
-    end_row(rt)
+    let decoded = MemoryAccess::decode(iss, Fipa(0), 0);
+    let loaded = decoded.map_or(0, |access| access.extend_read_result(value));
+    row(rt, &[iss.into(), value], &[loaded])
 }
 
 // What a store puts into memory from a core whose x0 to x30 hold one value.
-fn stored(decoded: Decoded, value: u64) -> u64 {
+fn stored(access: MemoryAccess, value: u64) -> u64 {
     let mut core = Core::fresh();
     core.x = [value; 31];
-    match decoded {
-        Decoded::Access(access) => {
-            let read = core.read_gpr(access.register_index);
-            access.store_value(read.value())
-        }
-        Decoded::NoSyndrome => 0,
-    }
+    let read = core.read_gpr(access.register_index);
+    access.store_value(exceptions::read_value(read))
 }
 
 fn store(rt: &impl Print, iss: u32, value: u64) -> io::Result<()> {
-    number(rt, iss as u64)?;
-    number(rt, value)?;
-    all_given(rt)?;
-    number(rt, stored(MemoryAccess::decode(iss, Fipa(0), 0), value))?;
-    end_row(rt)
+    let decoded = MemoryAccess::decode(iss, Fipa(0), 0);
+    let stored = decoded.map_or(0, |access| stored(access, value));
+    row(rt, &[iss.into(), value], &[stored])
 }
 
 pub(crate) fn rows(rt: &impl Print) -> io::Result<()> {

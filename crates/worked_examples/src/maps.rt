@@ -1,6 +1,7 @@
 // The suspend map.
-use super::print::{all_given, columns, end_row, found, number};
-use simple_map::{Inserted, Lookup, SimpleMap, SuspendCoreData};
+use super::print::{columns, row};
+use lists::refusal::answer_number;
+use simple_map::{Inserted, SimpleMap, SuspendCoreData};
 use std::io;
 
 // An entry for each key from 0 on, so many.
@@ -22,35 +23,24 @@ fn insert_entry(map: SimpleMap, key: u64) -> Inserted {
     map.insert(key, value)
 }
 
-fn found_entry(rt: &impl Print, lookup: Lookup) -> io::Result<()> {
-    match lookup {
-        Lookup::Value(value) => found(rt, 1, value.context_id),
-        Lookup::Nothing => found(rt, 0, 0),
-    }
+// Whether there is an entry, and its context id: two columns of a row.
+fn found(lookup: Option<SuspendCoreData>) -> (u64, u64) {
+    lookup.map_or((0, 0), |value| (1, value.context_id))
 }
 
 fn insert(rt: &impl Print, keys: u8, key: u64) -> io::Result<()> {
-    number(rt, keys as u64)?;
-    number(rt, key)?;
-    all_given(rt)?;
     let inserted = insert_entry(map_with(keys), key);
-    let answer = inserted.answer;
-    let map = inserted.map;
-    number(rt, answer.number())?;
-    found_entry(rt, map.get(key))?;
-    end_row(rt)
+    let (flag, context_id) = found(inserted.map.get(key));
+    let answer = answer_number(inserted.answer);
+    row(rt, &[keys.into(), key], &[answer, flag, context_id])
 }
 
 fn remove(rt: &impl Print, keys: u8, key: u64) -> io::Result<()> {
-    number(rt, keys as u64)?;
-    number(rt, key)?;
-    all_given(rt)?;
     let removed = map_with(keys).remove(key);
-    let entry = removed.removed;
-    let map = removed.map;
-    found_entry(rt, entry)?;
-    found_entry(rt, map.get(key))?;
-    end_row(rt)
+    let (flag, context_id) = found(removed.removed);
+    let (flag_then, context_id_then) = found(removed.map.get(key));
+    let found = [flag, context_id, flag_then, context_id_then];
+    row(rt, &[keys.into(), key], &found)
 }
 
 pub(crate) fn rows(rt: &impl Print) -> io::Result<()> {

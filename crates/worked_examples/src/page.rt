@@ -1,27 +1,22 @@
 // The filtered MMIO page.
-use super::print::{all_given, columns, end_row, found, number};
+use super::print::{columns, row};
 use memory_access::{Ipa, MemoryAccessWidth};
 use stage2_range::{MemoryReadAccess, MemoryReadResult};
 use std::io;
 
 fn load(rt: &impl Print, width: MemoryAccessWidth, offset: u64, counter: u64) -> io::Result<()> {
-    number(rt, width.bits() as u64)?;
-    number(rt, offset)?;
-    number(rt, counter)?;
-    all_given(rt)?;
     let access = MemoryReadAccess {
         ipa: Ipa(offset),
         offset,
         width,
     };
     let read = qemu::read_filtered_mmio(access, counter);
-    let result = read.result;
-    match result {
-        MemoryReadResult::Value(value) => found(rt, 1, value)?,
-        MemoryReadResult::Fault => found(rt, 0, 0)?,
-    }
-    number(rt, read.counter)?;
-    end_row(rt)
+    let (flag, value) = match read.result {
+        MemoryReadResult::Value(value) => (1, value),
+        MemoryReadResult::Fault => (0, 0),
+    };
+    let given = [width.bits().into(), offset, counter];
+    row(rt, &given, &[flag, value, read.counter])
 }
 
 pub(crate) fn rows(rt: &impl Print) -> io::Result<()> {

@@ -1,8 +1,9 @@
 // The builder, and the search of its regions, by value and by loan.
-use super::print::{all_given, columns, end_row, found, number};
+use super::print::{columns, row};
+use lists::refusal::answer_number;
 use memory_access::Ipa;
 use stage2::Policy;
-use stage2_range::RegionFound;
+use stage2_range::MemoryAccessHandlerMatch;
 use std::io;
 
 const PAGE: u64 = 0x1000;
@@ -26,51 +27,34 @@ fn with_handled(before: Policy, handled: u8) -> Policy {
     policy
 }
 
-fn held(rt: &impl Print, allowed: u8, handled: u8) -> io::Result<()> {
-    number(rt, allowed as u64)?;
-    number(rt, handled as u64)
-}
-
 fn allow(rt: &impl Print, allowed: u8, handled: u8, base: u64) -> io::Result<()> {
-    held(rt, allowed, handled)?;
-    number(rt, base)?;
-    all_given(rt)?;
     let answer = policy_with(allowed, handled)
         .allow_range(base, PAGE, 0)
         .answer;
-    number(rt, answer.number())?;
-    end_row(rt)
+    let given = [allowed.into(), handled.into(), base];
+    row(rt, &given, &[answer_number(answer)])
 }
 
 fn handle(rt: &impl Print, allowed: u8, handled: u8, base: u64, write: u64) -> io::Result<()> {
-    held(rt, allowed, handled)?;
-    number(rt, base)?;
-    number(rt, write)?;
-    all_given(rt)?;
     let answer = policy_with(allowed, handled)
         .handle_range(base, PAGE, 1, write)
         .answer;
-    number(rt, answer.number())?;
-    end_row(rt)
+    let given = [allowed.into(), handled.into(), base, write];
+    row(rt, &given, &[answer_number(answer)])
 }
 
-fn found_region(rt: &impl Print, region: RegionFound) -> io::Result<()> {
-    match region {
-        RegionFound::Match(m) => found(rt, 1, m.offset),
-        RegionFound::Nothing => found(rt, 0, 0),
-    }
+// Whether a region has the address, and the offset in it: two columns of a row.
+fn found(region: Option<MemoryAccessHandlerMatch>) -> (u64, u64) {
+    region.map_or((0, 0), |found| (1, found.offset))
 }
 
 // By value, and over the lent regions.
 fn find(rt: &impl Print, handled: u8, ipa: u64) -> io::Result<()> {
-    number(rt, handled as u64)?;
-    number(rt, ipa)?;
-    all_given(rt)?;
     let policy = policy_with(0, handled);
-    let regions = policy.regions;
-    found_region(rt, policy.find(Ipa(ipa)))?;
-    found_region(rt, stage2::find_in_array(regions, Ipa(ipa)))?;
-    end_row(rt)
+    let (flag, offset) = found(policy.find(Ipa(ipa)));
+    let (lent_flag, lent_offset) = found(stage2::find_in_array(policy.regions, Ipa(ipa)));
+    let found = [flag, offset, lent_flag, lent_offset];
+    row(rt, &[handled.into(), ipa], &found)
 }
 
 pub(crate) fn rows(rt: &impl Print) -> io::Result<()> {

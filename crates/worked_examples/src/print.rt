@@ -1,26 +1,21 @@
-// A table of the output: a line that names its columns, and a line for each row, the numbers given and, after a bar, those found.
+// A table of the output: a line that names its columns, and a line for each row, the numbers given and, after a bar, those found. (The
+// same as in `worked_traps`, where a line says why.)
 use std::io;
 
 pub(crate) fn columns(rt: &impl Print, text: &str) -> io::Result<()> {
     println!(rt; "{text}")
 }
 
-// A number of the row.
-pub(crate) fn number(rt: &impl Print, number: u64) -> io::Result<()> {
-    print!(rt; " {number:#x}")
+fn numbers(rt: &impl Print, numbers: &[u64]) -> io::Result<()> {
+    for number in numbers {
+        print!(rt; " {number:#x}")?;
+    }
+    Ok(())
 }
 
-// What follows was found.
-pub(crate) fn all_given(rt: &impl Print) -> io::Result<()> {
-    print!(rt; " |")
-}
-
-pub(crate) fn end_row(rt: &impl Print) -> io::Result<()> {
+pub(crate) fn row(rt: &impl Print, given: &[u64], found: &[u64]) -> io::Result<()> {
+    numbers(rt, given)?;
+    print!(rt; " |")?;
+    numbers(rt, found)?;
     println!(rt)
-}
-
-// Whether something was found, and the number that it has.
-pub(crate) fn found(rt: &impl Print, flag: u64, value: u64) -> io::Result<()> {
-    number(rt, flag)?;
-    number(rt, value)
 }

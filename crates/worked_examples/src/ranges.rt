@@ -1,24 +1,26 @@
 // Ranges, rounding to pages, and the registry of regions.
-use super::print::{all_given, columns, end_row, number};
+use super::print::{columns, row};
+use lists::refusal::answer_number;
 use stage2_range::{MemoryAccessRegion, Registered};
 use std::io;
 
 fn validate(rt: &impl Print, base: u64, size: u64) -> io::Result<()> {
-    number(rt, base)?;
-    number(rt, size)?;
-    all_given(rt)?;
-    number(rt, stage2_range::validate_range(base, size).number())?;
-    end_row(rt)
+    let answer = stage2_range::validate_range(base, size);
+    row(rt, &[base, size], &[answer_number(answer)])
 }
 
 fn align(rt: &impl Print, address: u64) -> io::Result<()> {
-    number(rt, address)?;
-    all_given(rt)?;
+    let down = stage2_range::align_down_to_page(address);
     let up = stage2_range::align_up_to_page(address);
-    number(rt, stage2_range::align_down_to_page(address))?;
-    number(rt, up.number())?;
-    number(rt, up.value())?;
-    end_row(rt)
+    row(
+        rt,
+        &[address],
+        &[
+            down,
+            stage2_range::aligned_number(up),
+            stage2_range::aligned_value(up),
+        ],
+    )
 }
 
 // A page whose loads are handled.
@@ -37,16 +39,11 @@ fn third(base: u64) -> Registered {
 }
 
 fn register(rt: &impl Print, base: u64) -> io::Result<()> {
-    number(rt, base)?;
-    all_given(rt)?;
     let registered = third(base);
-    let answer = registered.answer;
-    let regions = registered.regions;
-    let first = regions[0];
-    number(rt, answer.number())?;
-    number(rt, first.base_ipa)?;
-    number(rt, registered.region_count)?;
-    end_row(rt)
+    let answer = answer_number(registered.answer);
+    let first = registered.regions[0];
+    let found = [answer, first.base_ipa, registered.region_count];
+    row(rt, &[base], &found)
 }
 
 pub(crate) fn rows(rt: &impl Print) -> io::Result<()> {

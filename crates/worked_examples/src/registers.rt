@@ -1,28 +1,23 @@
 // A core's registers, written by value and by loan, and read.
-use super::print::{all_given, columns, end_row, number};
+use super::print::{columns, row};
 use exceptions::{Core, GprWritten};
+use lists::refusal::answer_number;
 use std::io;
 
-fn found_register(rt: &impl Print, written: GprWritten, index: usize) -> io::Result<()> {
-    let answer = written.answer;
-    let core = written.core;
-    let read = core.read_gpr(index);
-    number(rt, answer.number())?;
-    number(rt, read.value())
+// The answer to a write, and the register then.
+fn found(written: GprWritten, index: usize) -> (u64, u64) {
+    let read = written.core.read_gpr(index);
+    (answer_number(written.answer), exceptions::read_value(read))
 }
 
 // A write to the fresh core.
 fn write(rt: &impl Print, index: usize, value: u64) -> io::Result<()> {
-    number(rt, index as u64)?;
-    number(rt, value)?;
-    all_given(rt)?;
-    found_register(rt, Core::fresh().write_gpr(index, value), index)?;
-    found_register(
-        rt,
-        exceptions::write_gpr_by_loan(Core::fresh(), index, value),
-        index,
-    )?;
-    end_row(rt)
+    let by_value = Core::fresh().write_gpr(index, value);
+    let by_loan = exceptions::write_gpr_by_loan(Core::fresh(), index, value);
+    let (answer, read) = found(by_value, index);
+    let (lent_answer, lent_read) = found(by_loan, index);
+    let found = [answer, read, lent_answer, lent_read];
+    row(rt, &[index as u64, value], &found)
 }
 
 pub(crate) fn rows(rt: &impl Print) -> io::Result<()> {

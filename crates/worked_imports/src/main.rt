@@ -1,9 +1,10 @@
 // Worked values of an import, of the blob on standard input, which dtc made of tests/devicetree/board.dts: the answer's number, how many
-// ranges are then allowed, and the first three of them, each with its base, size, end and attribute word. `fdt_tree` computes the same pairs
-// from the devicetree's definitions.
+// ranges are then allowed, and the first three of them, each with its base, size, end and attribute word. `fdt_tree` computes the same
+// pairs from the devicetree's definitions.
 
 #![tactic(auto)]
 
+use lists::refusal::answer_number;
 use memory_import::import_memory;
 use stage2::{Built, Policy};
 use stage2_range::Stage2Range;
@@ -13,26 +14,28 @@ use std::io::Read;
 // What is read of the input, with zeros after a shorter one.
 const BLOB_LENGTH: usize = 1024;
 
-fn number(rt: &impl Print, value: u64, after: char) -> io::Result<()> {
-    print!(rt; "{value}{after}")
-}
+// How many of the allowed ranges are shown.
+const SHOWN: usize = 3;
 
 fn row(rt: &impl Print, range: Stage2Range) -> io::Result<()> {
-    number(rt, range.base_ipa, ' ')?;
-    number(rt, range.size, ' ')?;
-    number(rt, range.end_ipa, ' ')?;
-    number(rt, range.attributes, '\n')
+    let Stage2Range {
+        base_ipa,
+        size,
+        end_ipa,
+        attributes,
+    } = range;
+    println!(rt; "{base_ipa} {size} {end_ipa} {attributes}")
 }
 
 fn rows(rt: &impl Print, built: Built) -> io::Result<()> {
-    let answer = built.answer;
+    let answer = answer_number(built.answer);
     let policy = built.policy;
-    let allowed = policy.allowed;
-    number(rt, answer.number(), ' ')?;
-    number(rt, policy.allowed_count, '\n')?;
-    row(rt, allowed[0])?;
-    row(rt, allowed[1])?;
-    row(rt, allowed[2])
+    let allowed = policy.allowed_count;
+    println!(rt; "{answer} {allowed}")?;
+    for range in &policy.allowed[..SHOWN] {
+        row(rt, *range)?;
+    }
+    Ok(())
 }
 
 fn main(rt: HostRuntime) -> io::Result<()> {

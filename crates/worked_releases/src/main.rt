@@ -3,40 +3,31 @@
 
 #![tactic(auto)]
 
+use lists::refusal::answer_number;
 use stage2::{Built, Policy};
 use stage2_range::{MemoryAccessRegion, Stage2Range};
 use std::io;
 
 const PAGE: u64 = 4096;
 
-fn number(rt: &impl Print, value: u64, after: char) -> io::Result<()> {
-    print!(rt; "{value}{after}")
-}
-
-fn attributes(rt: &impl Print, range: Stage2Range) -> io::Result<()> {
-    number(rt, range.attributes, ' ')
-}
-
-fn read_handler(rt: &impl Print, region: MemoryAccessRegion, after: char) -> io::Result<()> {
-    let handler = region.handler;
-    let read = handler.read;
-    number(rt, read.number(), after)
-}
+// How many of each list a row shows.
+const SHOWN: usize = 3;
 
 fn row(rt: &impl Print, built: Built) -> io::Result<Policy> {
-    let answer = built.answer;
+    let answer = answer_number(built.answer);
     let policy = built.policy;
-    let allowed = policy.allowed;
-    let regions = policy.regions;
-    number(rt, answer.number(), ' ')?;
-    number(rt, policy.allowed_count, ' ')?;
-    number(rt, policy.region_count, ' ')?;
-    attributes(rt, allowed[0])?;
-    attributes(rt, allowed[1])?;
-    attributes(rt, allowed[2])?;
-    read_handler(rt, regions[0], ' ')?;
-    read_handler(rt, regions[1], ' ')?;
-    read_handler(rt, regions[2], '\n')?;
+    let allowed = policy.allowed_count;
+    let regions = policy.region_count;
+    print!(rt; "{answer} {allowed} {regions}")?;
+    for range in &policy.allowed[..SHOWN] {
+        let attributes = range.attributes;
+        print!(rt; " {attributes}")?;
+    }
+    for region in &policy.regions[..SHOWN] {
+        let read = region.handler.read.number();
+        print!(rt; " {read}")?;
+    }
+    println!(rt)?;
     Ok(policy)
 }
 
@@ -71,11 +62,10 @@ fn refusals(rt: &impl Print) -> io::Result<()> {
 fn main(rt: HostRuntime) -> io::Result<()> {
     refusals(&rt)?;
     // The first of two ranges, the other, then the first of two regions, the other, and then nothing.
-    let policy = row(&rt, twice(2, 2).release_range(PAGE, PAGE))?;
-    let policy = row(&rt, policy.release_range(PAGE, PAGE))?;
-    let policy = row(&rt, policy.release_range(PAGE, PAGE))?;
-    let policy = row(&rt, policy.release_range(PAGE, PAGE))?;
-    row(&rt, policy.release_range(PAGE, PAGE))?;
+    let mut policy = twice(2, 2);
+    for _ in 0..5 {
+        policy = row(&rt, policy.release_range(PAGE, PAGE))?;
+    }
     // Counts of 40 and 20 read as 32 and 16: they become 31 and 15, and the other one stays.
     row(&rt, twice(40, 20).release_range(PAGE, PAGE))?;
     row(&rt, twice(0, 20).release_range(PAGE, PAGE))?;

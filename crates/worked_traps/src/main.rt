@@ -1,5 +1,5 @@
-// Worked values of the calls on a core, as `worked_examples` has those of the others. The two are programs of their own, since what a program
-// costs to check grows with the library functions that it calls.
+// Worked values of the calls on a core, as `worked_examples` has those of the others. The two are programs of their own, since what a
+// program costs to check grows with the library functions that it calls.
 
 #![tactic(auto)]
 

@@ -1,9 +1,9 @@
 // Replies to a call of core 0, whose x0 to x30 held one value, ELR 0x1000 and SPSR 5; and calls on cores that there are not.
-use super::print::{all_given, columns, end_row, number};
+use super::print::{columns, row};
 use super::traps::{ESR_HVC, ESR_SMC, saved_cores, trap_at};
-use exceptions::Core;
 use forwarded_call::HvcReply;
 use hypervisor::CoresStep;
+use lists::refusal::answer_number;
 use stage2::Policy;
 use std::io;
 
@@ -16,58 +16,35 @@ fn reply_of(kind: u64) -> HvcReply {
     }
 }
 
-fn found_core(rt: &impl Print, cores: [Core; 8]) -> io::Result<()> {
-    let core = cores[0];
-    let x = core.x;
-    number(rt, x[0])?;
-    number(rt, x[1])?;
-    number(rt, x[2])?;
-    number(rt, x[3])?;
-    number(rt, x[4])?;
-    number(rt, core.elr)
-}
-
-fn found_step(rt: &impl Print, step: CoresStep) -> io::Result<()> {
-    let answer = step.answer;
-    let cores = step.cores;
-    number(rt, answer.number())?;
-    found_core(rt, cores)
+// The answer, and core 0 then: x0 to x4 and its ELR.
+fn found(step: CoresStep) -> [u64; 7] {
+    let core = step.cores[0];
+    let [x0, x1, x2, x3, x4, ..] = core.x;
+    [answer_number(step.answer), x0, x1, x2, x3, x4, core.elr]
 }
 
 fn reply(rt: &impl Print, esr: u64, x: u64, kind: u64) -> io::Result<()> {
-    number(rt, esr)?;
-    number(rt, x)?;
-    number(rt, kind)?;
-    all_given(rt)?;
-    let cores = saved_cores(x);
-    let called = hypervisor::trap(Policy::new(), cores, 0, 0, trap_at(esr, 0, 0));
-    let waiting = called.cores;
-    found_step(rt, hypervisor::reply(waiting, 0, reply_of(kind)))?;
-    end_row(rt)
+    let called = hypervisor::trap(Policy::new(), saved_cores(x), 0, 0, trap_at(esr, 0, 0));
+    let replied = hypervisor::reply(called.cores, 0, reply_of(kind));
+    row(rt, &[esr, x, kind], &found(replied))
 }
 
 fn reply_unasked(rt: &impl Print, core: u64) -> io::Result<()> {
-    number(rt, core)?;
-    all_given(rt)?;
-    found_step(rt, hypervisor::reply(saved_cores(5), core, reply_of(1)))?;
-    end_row(rt)
+    let replied = hypervisor::reply(saved_cores(5), core, reply_of(1));
+    row(rt, &[core], &found(replied))
 }
 
 fn save(rt: &impl Print, core: u64) -> io::Result<()> {
-    number(rt, core)?;
-    all_given(rt)?;
-    found_step(
-        rt,
-        hypervisor::save(saved_cores(5), core, [9u64; 31], 0x2000, 5),
-    )?;
-    end_row(rt)
+    let saved = hypervisor::save(saved_cores(5), core, [9u64; 31], 0x2000, 5);
+    row(rt, &[core], &found(saved))
 }
 
 pub(crate) fn rows(rt: &impl Print) -> io::Result<()> {
     columns(rt, "reply: ESR x0..x30 kind | answer x0 x1 x2 x3 x4 ELR")?;
     // Bench: one value, from the firmware.
     reply(rt, ESR_SMC, 0xC400_0003, 1)?;
-    // The firmware gives no four values, also where x0 has an upper half; the platform does; its error, after an SMC and after an HVC; no kind 5.
+    // The firmware gives no four values, also where x0 has an upper half; the platform does; its error, after an SMC and after an HVC; no
+    // kind 5.
     reply(rt, ESR_SMC, 0x8400_0000, 2)?;
     reply(rt, ESR_SMC, 0x1_8400_0000, 2)?;
     reply(rt, ESR_SMC, 0, 2)?;

@@ -1,8 +1,9 @@
 // Traps of core 0, which was saved with one value in x0 to x30, ELR 0x1000 and SPSR 5.
-use super::print::{all_given, columns, end_row, number};
+use super::print::{columns, row};
 use data_abort::TrapRegisters;
 use exceptions::Core;
 use hypervisor::Trapped;
+use lists::refusal::answer_number;
 use memory_access::Fipa;
 use stage2::Policy;
 use std::io;
@@ -12,15 +13,11 @@ fn policy_of(regions: u64) -> Policy {
     if regions == 0 {
         return Policy::new();
     }
-    let built = Policy::new().handle_range(0x0F00_0000, 0x1000, 1, 1);
-    let policy = built.policy;
-    policy
+    Policy::new().handle_range(0x0F00_0000, 0x1000, 1, 1).policy
 }
 
 pub(crate) fn saved_cores(x: u64) -> [Core; 8] {
-    let saved = hypervisor::save(hypervisor::fresh_cores(), 0, [x; 31], 0x1000, 5);
-    let cores = saved.cores;
-    cores
+    hypervisor::save(hypervisor::fresh_cores(), 0, [x; 31], 0x1000, 5).cores
 }
 
 // What the hardware says of a trap in the page at 0x0F000000.
@@ -33,100 +30,58 @@ pub(crate) fn trap_at(esr: u64, far: u64, vbar: u64) -> TrapRegisters {
     }
 }
 
-fn found_core(rt: &impl Print, cores: [Core; 8]) -> io::Result<()> {
-    let core = cores[0];
-    let x = core.x;
-    let el1 = core.el1;
-    number(rt, x[5])?;
-    number(rt, core.elr)?;
-    number(rt, core.spsr)?;
-    number(rt, el1.esr)?;
-    number(rt, el1.spsr)
+// The answer and its kind, the counter, and core 0 then.
+fn found(trapped: Trapped) -> [u64; 8] {
+    let answer = trapped.result.answer;
+    let core = trapped.cores[0];
+    [
+        answer_number(answer),
+        core_answers::trap_kind(answer),
+        trapped.counter,
+        core.x[5],
+        core.elr,
+        core.spsr,
+        core.el1.esr,
+        core.el1.spsr,
+    ]
 }
 
-fn found_trap(rt: &impl Print, trapped: Trapped) -> io::Result<()> {
-    let result = trapped.result;
-    let answer = result.answer;
-    let cores = trapped.cores;
-    number(rt, answer.number())?;
-    number(rt, answer.kind())?;
-    number(rt, trapped.counter)?;
-    found_core(rt, cores)
-}
-
-fn given_trap(
-    rt: &impl Print,
-    times: u64,
-    regions: u64,
-    x: u64,
-    trap: TrapRegisters,
-) -> io::Result<()> {
-    number(rt, times)?;
-    number(rt, regions)?;
-    number(rt, x)?;
-    number(rt, trap.esr)?;
-    number(rt, trap.far)?;
-    number(rt, trap.vbar)?;
-    all_given(rt)
-}
-
-fn trap(rt: &impl Print, regions: u64, x: u64, trap: TrapRegisters) -> io::Result<()> {
-    given_trap(rt, 1, regions, x, trap)?;
-    found_trap(
-        rt,
-        hypervisor::trap(policy_of(regions), saved_cores(x), 0, 0, trap),
-    )?;
-    end_row(rt)
-}
-
-// The same trap again, after it was handled.
-fn trap_again(rt: &impl Print, regions: u64, x: u64, trap: TrapRegisters) -> io::Result<()> {
-    given_trap(rt, 2, regions, x, trap)?;
-    let once = hypervisor::trap(policy_of(regions), saved_cores(x), 0, 0, trap);
-    let policy = once.policy;
-    let cores = once.cores;
-    found_trap(rt, hypervisor::trap(policy, cores, once.counter, 0, trap))?;
-    end_row(rt)
+// The same trap so many times, once at least.
+fn trap(rt: &impl Print, times: u8, regions: u64, x: u64, trap: TrapRegisters) -> io::Result<()> {
+    let mut step = hypervisor::trap(policy_of(regions), saved_cores(x), 0, 0, trap);
+    for _ in 1..times {
+        step = hypervisor::trap(step.policy, step.cores, step.counter, 0, trap);
+    }
+    let given = [times.into(), regions, x, trap.esr, trap.far, trap.vbar];
+    row(rt, &given, &found(step))
 }
 
 // A trap in the page at 0x0F000000 with these handlers, 7 in x0 to x30 and the counter 9.
 fn through(rt: &impl Print, read: u64, write: u64, trap: TrapRegisters) -> io::Result<()> {
-    number(rt, read)?;
-    number(rt, write)?;
-    number(rt, trap.esr)?;
-    number(rt, trap.far)?;
-    number(rt, trap.vbar)?;
-    all_given(rt)?;
     let built = Policy::new().handle_range(0x0F00_0000, 0x1000, read, write);
-    let policy = built.policy;
-    found_trap(rt, hypervisor::trap(policy, saved_cores(7), 9, 0, trap))?;
-    end_row(rt)
+    let trapped = hypervisor::trap(built.policy, saved_cores(7), 9, 0, trap);
+    let given = [read, write, trap.esr, trap.far, trap.vbar];
+    row(rt, &given, &found(trapped))
 }
 
 // What a call hands out, and the core's own x0 then.
-fn found_call(rt: &impl Print, trapped: Trapped) -> io::Result<()> {
+fn found_call(trapped: Trapped) -> [u64; 6] {
     let result = trapped.result;
-    let answer = result.answer;
-    let values = result.values;
-    let cores = trapped.cores;
-    let core = cores[0];
-    let x = core.x;
-    number(rt, answer.kind())?;
-    number(rt, values[0])?;
-    number(rt, values[1])?;
-    number(rt, values[17])?;
-    number(rt, result.sve_hint)?;
-    number(rt, x[0])
+    let [v0, v1, .., v17] = result.values;
+    let core = trapped.cores[0];
+    [
+        core_answers::trap_kind(result.answer),
+        v0,
+        v1,
+        v17,
+        result.sve_hint,
+        core.x[0],
+    ]
 }
 
 fn call(rt: &impl Print, x: u64) -> io::Result<()> {
-    number(rt, x)?;
-    all_given(rt)?;
-    found_call(
-        rt,
-        hypervisor::trap(Policy::new(), saved_cores(x), 0, 0, trap_at(ESR_HVC, 0, 0)),
-    )?;
-    end_row(rt)
+    let trapped = hypervisor::trap(Policy::new(), saved_cores(x), 0, 0, trap_at(ESR_HVC, 0, 0));
+    row(rt, &[x], &found_call(trapped))
 }
 
 // ESR_EL2 of an HVC and of an SMC, of a 64-bit load and a 32-bit load into x5, and of 64-bit stores from x5 and from Rt 31.
@@ -151,17 +106,17 @@ pub(crate) fn rows(rt: &impl Print) -> io::Result<()> {
         "trap: times regions x0..x30 ESR FAR VBAR | answer kind counter x5 ELR SPSR ESR_EL1 SPSR_EL1",
     )?;
     // Bench: no region; a call for the firmware.
-    trap(rt, 0, 0, trap_at(ESR_LOAD, 0, 0x8_0000))?;
-    trap(rt, 0, 0xC400_0003, trap_at(ESR_SMC, 0, 0))?;
+    trap(rt, 1, 0, 0, trap_at(ESR_LOAD, 0, 0x8_0000))?;
+    trap(rt, 1, 0, 0xC400_0003, trap_at(ESR_SMC, 0, 0))?;
     // Refusals 12, 13 and 11.
-    trap(rt, 0, 0, trap_at(0, 0, 0x8_0000))?;
-    trap(rt, 0, 0, trap_at(ESR_LOAD, 0, 0))?;
-    trap_again(rt, 0, 0, trap_at(ESR_SMC, 0, 0))?;
+    trap(rt, 1, 0, 0, trap_at(0, 0, 0x8_0000))?;
+    trap(rt, 1, 0, 0, trap_at(ESR_LOAD, 0, 0))?;
+    trap(rt, 2, 0, 0, trap_at(ESR_SMC, 0, 0))?;
     // The counter word, twice.
-    trap_again(rt, 1, 7, trap_at(ESR_LOAD, 0x10, 0x8_0000))?;
+    trap(rt, 2, 1, 7, trap_at(ESR_LOAD, 0x10, 0x8_0000))?;
     // A store at offset 8, where each of x0 to x30 holds the word that the page takes: Rt 31 reads 0, which is another, and faults.
-    trap(rt, 1, STORED_WORD, trap_at(ESR_STORE, 8, 0x8_0000))?;
-    trap(rt, 1, STORED_WORD, trap_at(ESR_STORE_RT_31, 8, 0x8_0000))
+    trap(rt, 1, 1, STORED_WORD, trap_at(ESR_STORE, 8, 0x8_0000))?;
+    trap(rt, 1, 1, STORED_WORD, trap_at(ESR_STORE_RT_31, 8, 0x8_0000))
 }
 
 pub(crate) fn handlers(rt: &impl Print) -> io::Result<()> {

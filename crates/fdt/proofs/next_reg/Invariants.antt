@@ -1,10 +1,7 @@
-use Rattle.std.proofs.Common.{◌-◌, length, drop}
+use Rattle.std.proofs.Common.{◌+◌, ◌*◌, drop}
 use Rattle.fdt.specs.Passes.{pairs_from}
 use Rattle.fdt.proofs.Laws.{PairsLeft}
 use Rattle.fdt.proofs.next_reg.Given as goal
 
-abbrev pub invariant-loop-at : goal.invariant-loop-at
-invariant-loop-at l = PairsLeft l.block l.strings l.at l.lexer l.nodes (pairs_from l.block l.strings l.from l.scan.lexer l.scan.nodes (drop l.from l.block))
-
-abbrev pub decreases-loop-at : goal.decreases-loop-at
-decreases-loop-at l = length l.block - l.at
+abbrev pub invariant-loop-word : goal.invariant-loop-word
+invariant-loop-word l = PairsLeft l.block l.strings (l.from + 4 * l.word) l.lexer l.nodes (pairs_from l.block l.strings l.from l.fn.scan.lexer l.fn.scan.nodes (drop l.from l.block))

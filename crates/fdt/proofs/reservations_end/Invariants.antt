@@ -1,10 +1,7 @@
+use Rattle.std.proofs.Common.{◌+◌, ◌-◌, ◌*◌, ◌/◌}
 use Rattle.fdt.proofs.Laws.{EntriesLeft}
-use Rattle.std.proofs.Common.{◌-◌, ◌/◌}
 use Rattle.fdt.specs.Blob.{list_ends}
 use Rattle.fdt.proofs.reservations_end.Given as goal
 
-abbrev pub invariant-loop-left : goal.invariant-loop-left
-invariant-loop-left l = EntriesLeft l.s l.at l.left (list_ends l.s l.from ((l.total - l.from) / 16))
-
-abbrev pub decreases-loop-left : goal.decreases-loop-left
-decreases-loop-left l = l.left
+abbrev pub invariant-loop-entry : goal.invariant-loop-entry
+invariant-loop-entry l = EntriesLeft l.s (l.from + 16 * l.entry) ((l.total - l.from) / 16 - l.entry) (list_ends l.s l.from ((l.total - l.from) / 16))

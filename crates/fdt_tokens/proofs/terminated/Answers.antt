@@ -1,12 +1,7 @@
-use Rattle.fdt_tokens.proofs.Laws.{zero_here, zero_later, zero_done}
-use native.Mathlib.Omega.{arith}
+use Rattle.std.proofs.Common.{◌∙◌, ap}
+use Rattle.fdt_tokens.specs.Devicetree.{has_zero}
+use Rattle.fdt_tokens.proofs.Laws.{any_zero}
 use Rattle.fdt_tokens.proofs.terminated.Goals as goal
 
-pub returns-then-s-i-eq0 : goal.returns-then-s-i-eq0
-returns-then-s-i-eq0 c = zero_here c.loop-i.invariant (omega arith) c.if-s-i-eq0.true
-
-pub loop-i-preserved : goal.loop-i-preserved
-loop-i-preserved c = zero_later c.loop-i.invariant (omega arith) c.if-s-i-eq0.false
-
 pub returns : goal.returns
-returns c = zero_done c.loop-i.invariant (omega arith)
+returns c = c.contains.ensures.value ∙ (any_zero _ ∙ ap has_zero c.tail.ensures)

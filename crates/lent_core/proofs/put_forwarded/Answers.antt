@@ -18,6 +18,6 @@ returns c =
       c.put_word-2.ensures,
       stored_done c.loop-i.invariant (omega (arith, fits)),
       c.put_word.ensures,
-      c.kind.ensures,
+      c.trap_kind.ensures,
     )
     (result-written (handed_out a.cores.now a.core a.call) _ (omega arith) fits)

@@ -12,7 +12,8 @@ pub returns-then-core-lt8 : goal.returns-then-core-lt8
 unfolding core_at
 returns-then-core-lt8 c =
     let a = c.args in
-    let el1 = a.el1 in
+    let to = a.to in
+    let el1 = to.el1 in
     rw (
       le-ltb 7 a.core (omega arith),
       c.put_word-then-core-lt8-5.ensures,
@@ -23,6 +24,6 @@ returns-then-core-lt8 c =
       c.put_word.ensures,
     )
     (core-put a.cores.now a.core
-    (λ one. (elr_word, a.elr) ∷ (spsr_word, a.spsr) ∷ (elr_el1_word, el1.elr) ∷ (spsr_el1_word, el1.spsr) ∷ (far_el1_word, el1.far) ∷ (esr_el1_word, el1.esr) ∷ [])
-    (λ one. with_return one a.elr a.spsr el1)
+    (λ one. (elr_word, to.elr) ∷ (spsr_word, to.spsr) ∷ (elr_el1_word, el1.elr) ∷ (spsr_el1_word, el1.spsr) ∷ (far_el1_word, el1.far) ∷ (esr_el1_word, el1.esr) ∷ [])
+    (λ one. with_return one to.elr to.spsr el1)
     c.are_bytes.ensures (omega arith) refl (omega arith))

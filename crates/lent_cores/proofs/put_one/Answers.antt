@@ -22,7 +22,7 @@ returns c =
       c.put_el1.ensures,
       c.put_word-2.ensures,
       c.put_word.ensures,
-      c.put_x.ensures,
+      c.put_words.ensures,
       c.kept_code-code.ensures,
       c.wait_number.ensures,
       c.get_word.ensures,

@@ -7,6 +7,3 @@ use Rattle.lent_policy.proofs.place_at.Given as goal
 
 abbrev pub invariant-loop-place : goal.invariant-loop-place
 invariant-loop-place l = (l.at ≤ l.place) × (l.place ≤ l.n) × (l.policy ≡ shifted region_at with_region l.n l.initial.policy l.place)
-
-abbrev pub decreases-loop-place : goal.decreases-loop-place
-decreases-loop-place l = l.place

@@ -1,5 +1,5 @@
 -- The loop's invariant: the place is `place` places further than the first that fits among the regions not yet passed.
-use Prim.Native.Nat.{◌-◌, min}
+use Prim.Native.Nat.{min}
 use lib.Dec.{leb}
 use Rattle.lists.specs.Lists.{first_index}
 use Rattle.lists.proofs.Laws.{IndexLeft}
@@ -10,6 +10,3 @@ use Rattle.lent_policy.proofs.place_by_base.Given as goal
 
 abbrev pub invariant-loop-place : goal.invariant-loop-place
 invariant-loop-place l = IndexLeft (λ s. leb l.base_ipa s.base_ipa) (each (region_at l.policy) 0 16) (min (word_at l.policy region_count_at) 16) l.place (first_index (λ s. leb l.base_ipa s.base_ipa) (regions_held (policy_at l.policy)))
-
-abbrev pub decreases-loop-place : goal.decreases-loop-place
-decreases-loop-place l = l.held - l.place

@@ -2,14 +2,14 @@ use mathlib.Core.Path.{refl, sym, ◌∙◌}
 use Rattle.lent_release.proofs.Laws.{refused-first, then_valid}
 use Rattle.lent_release.proofs.release_range.Goals as goal
 
-pub returns-in-Refused : goal.returns-in-Refused
-returns-in-Refused c =
+pub returns-in-Err : goal.returns-in-Err
+returns-in-Err c =
     let a = c.args in
-    let e = sym c.validate_range.ensures ∙ c.in-Refused.is in
+    let e = sym c.validate_range.ensures ∙ c.in-Err.is in
     rw (refused-first a.policy.now a.base_ipa a.size _ e) (c.number.ensures, refl, refl)
 
-pub returns-in-Accepted : goal.returns-in-Accepted
-returns-in-Accepted c =
+pub returns-in-Ok : goal.returns-in-Ok
+returns-in-Ok c =
     let a = c.args in
-    let e = sym c.validate_range.ensures ∙ c.in-Accepted.is in
+    let e = sym c.validate_range.ensures ∙ c.in-Ok.is in
     rw (then_valid a.policy.now a.base_ipa a.size e) c.release_valid.ensures

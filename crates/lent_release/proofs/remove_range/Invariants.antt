@@ -1,5 +1,5 @@
 -- The loop's invariant: the ranges after the place that is freed, up to `place`, stand one place sooner (`closed`).
-use Prim.Native.Nat.{◌+◌, ◌-◌, ◌≤◌}
+use Prim.Native.Nat.{◌+◌, ◌≤◌}
 use mathlib.Core.Path.{◌≡◌}
 use Rattle.lent_release.proofs.Removal.{closed}
 use Rattle.lent_release.proofs.Laws.{ranges}
@@ -7,6 +7,3 @@ use Rattle.lent_release.proofs.remove_range.Given as goal
 
 abbrev pub invariant-loop-place : goal.invariant-loop-place
 invariant-loop-place l = (l.at ≤ l.place) × (l.place ≤ l.last) × (l.last + 1 ≡ l.n) × (l.policy ≡ closed ranges l.initial.policy l.at l.place)
-
-abbrev pub decreases-loop-place : goal.decreases-loop-place
-decreases-loop-place l = l.last - l.place

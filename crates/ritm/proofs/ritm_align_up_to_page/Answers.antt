@@ -6,4 +6,4 @@ pub returns : goal.returns
 unfolding align_up_call
 returns c =
     let aligned = c.align_up_to_page-aligned.ensures in
-    (rw (c.number.ensures, aligned), refl, rw (c.put_one_word.ensures, c.value.ensures, aligned))
+    (rw (c.aligned_number.ensures, aligned), refl, rw (c.put_one_word.ensures, c.aligned_value.ensures, aligned))

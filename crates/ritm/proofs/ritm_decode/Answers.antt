@@ -6,4 +6,4 @@ pub returns : goal.returns
 unfolding decode_call
 returns c =
     let decoded = c.decode-decoded.ensures in
-    (rw (c.number.ensures, decoded), refl, rw (c.put_six.ensures, c.values.ensures, decoded))
+    (rw (c.decoded_number.ensures, decoded), refl, rw (c.put_six.ensures, c.decoded_values.ensures, decoded))

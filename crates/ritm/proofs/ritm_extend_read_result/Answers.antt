@@ -2,14 +2,14 @@ use Rattle.ritm.specs.Interface.{extend_call}
 use mathlib.Core.Path.{refl}
 use Rattle.ritm.proofs.ritm_extend_read_result.Goals as goal
 
-pub returns-in-Access : goal.returns-in-Access
+pub returns-in-Some : goal.returns-in-Some
 unfolding extend_call
-returns-in-Access c = (
-  rw (← c.decode.ensures, c.in-Access.is),
+returns-in-Some c = (
+  rw (← c.decode.ensures, c.in-Some.is),
   refl,
-  rw (c.put_one_word.ensures, c.extend_read_result.ensures, ← c.decode.ensures, c.in-Access.is),
+  rw (c.put_one_word.ensures, c.extend_read_result.ensures, ← c.decode.ensures, c.in-Some.is),
 )
 
-pub returns-in-NoSyndrome : goal.returns-in-NoSyndrome
+pub returns-in-None : goal.returns-in-None
 unfolding extend_call
-returns-in-NoSyndrome c = (rw (c.number.ensures, ← c.decode.ensures, c.in-NoSyndrome.is), refl, rw (c.put_one_word-in-NoSyndrome.ensures, ← c.decode.ensures, c.in-NoSyndrome.is))
+returns-in-None c = (rw (c.decoded_number.ensures, ← c.decode.ensures, c.in-None.is), refl, rw (c.put_one_word-in-None.ensures, ← c.decode.ensures, c.in-None.is))

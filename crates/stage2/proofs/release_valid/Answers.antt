@@ -1,35 +1,35 @@
--- By the places that the searches find: a range goes, a region goes, or nothing does.
+-- By what the searches find: a range goes, a region goes, or nothing does.
 use mathlib.Core.Path.{sym, ◌∙◌}
 use native.Mathlib.Omega.{arith}
-use Rattle.stage2.proofs.Release.{range_goes, region_goes, none_goes}
+use Rattle.stage2.proofs.Release.{range_within, range_found, region_within, region_found, none_found}
 use Rattle.stage2.proofs.release_valid.Goals as goal
 
-pub returns-then-at-ranges : goal.returns-then-at-ranges
-returns-then-at-ranges c =
+pub remove_at-requires : goal.remove_at-requires
+remove_at-requires c =
     let a = c.args in
-    let n = c.held_count-ranges.ensures in
-    let at = c.allowed_position-at.ensures in
-    rw (c.remove_range_at-left.ensures, at, n)
-    (sym (range_goes a.policy a.base_ipa a.size (omega arith) (omega arith) (omega (arith, n, at, c.if-at-ranges.true))))
+    range_within a.policy a.base_ipa a.size (omega arith) (omega arith) c.allowed_held-allowed.ensures (sym c.position.ensures ∙ c.in-Some.is)
 
-pub returns-then-place-handled : goal.returns-then-place-handled
-returns-then-place-handled c =
+pub returns-in-Some : goal.returns-in-Some
+returns-in-Some c =
     let a = c.args in
-    let n = c.held_count-ranges.ensures in
-    let at = c.allowed_position-at.ensures in
-    let m = c.held_count-handled.ensures in
-    let place = c.region_position-place.ensures in
-    rw (c.remove_region_at-left.ensures, place, m)
-    (sym (region_goes a.policy a.base_ipa a.size (omega arith) (omega arith) (omega (arith, n, at, c.if-at-ranges.false))
-    (omega (arith, m, place, c.if-place-handled.true))))
+    rw c.remove_at.ensures (range_found a.policy a.base_ipa a.size (omega arith) (omega arith) c.allowed_held-allowed.ensures (sym c.position.ensures ∙ c.in-Some.is))
+
+pub remove_at-requires-in-Some-position : goal.remove_at-requires-in-Some-position
+remove_at-requires-in-Some-position c =
+    let a = c.args in
+    region_within a.policy a.base_ipa a.size (omega arith) (omega arith) c.allowed_held-allowed.ensures c.regions_held-regions.ensures (sym c.position.ensures ∙ c.in_default.is)
+    (sym c.position-2.ensures ∙ c.in-Some-position.is)
+
+pub returns-in-Some-position : goal.returns-in-Some-position
+returns-in-Some-position c =
+    let a = c.args in
+    rw c.remove_at-in-Some-position.ensures
+    (region_found a.policy a.base_ipa a.size (omega arith) (omega arith) c.allowed_held-allowed.ensures c.regions_held-regions.ensures (sym c.position.ensures ∙ c.in_default.is)
+    (sym c.position-2.ensures ∙ c.in-Some-position.is))
 
 pub returns : goal.returns
 returns c =
     let a = c.args in
-    let n = c.held_count-ranges.ensures in
-    let at = c.allowed_position-at.ensures in
-    let m = c.held_count-handled.ensures in
-    let place = c.region_position-place.ensures in
     c.refuse.ensures
-    ∙ sym (none_goes a.policy a.base_ipa a.size (omega arith) (omega arith) (omega (arith, n, at, c.if-at-ranges.false))
-    (omega (arith, m, place, c.if-place-handled.false)))
+    ∙ none_found a.policy a.base_ipa a.size (omega arith) (omega arith) c.allowed_held-allowed.ensures c.regions_held-regions.ensures (sym c.position.ensures ∙ c.in_default.is)
+    (sym c.position-2.ensures ∙ c.in_default-position.is)

@@ -1,18 +1,10 @@
+use mathlib.Core.Path.{sym, ◌∙◌}
 use Rattle.stage2.specs.Policy.{allow_range}
-use Rattle.stage2.proofs.Laws.{allow_splits}
+use Rattle.stage2.proofs.Laws.{allow_unfit}
 use Rattle.stage2.proofs.Policy.allow_range.Goals as goal
 
-pub returns-in-Refused : goal.returns-in-Refused
+pub returns-in-Err : goal.returns-in-Err
 unfolding allow_range
-returns-in-Refused c = rw (c.refuse.ensures, allow_splits, ← c.validate_range.ensures, c.in-Refused.is)
-
-pub returns-in-Accepted : goal.returns-in-Accepted
-unfolding allow_range
-returns-in-Accepted c =
-    rw (
-      c.allow_valid.ensures,
-      c.new.ensures,
-      allow_splits,
-      ← c.validate_range.ensures,
-      c.in-Accepted.is,
-    )
+returns-in-Err c =
+    let a = c.args in
+    rw (c.refuse.ensures, allow_unfit a.self a.base_ipa a.size _ (sym c.validate_range.ensures ∙ c.in-Err.is))
