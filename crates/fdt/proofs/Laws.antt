@@ -1,7 +1,8 @@
 -- Laws of the loops, by places of a list. Assumes nothing.
-use Rattle.std.proofs.Common.{◌≡◌, ℕ, zero, suc, ◌+◌, ◌-◌, ◌*◌, ◌/◌, ◌<◌, ◌≤◌, Bool, true, false, cond, List, [], ◌∷◌, ◌++◌, length, drop, sym, refl, ap, ◌∙◌, sub-one, arith, length-drop}
+use Rattle.std.proofs.Common.{◌≡◌, ℕ, zero, suc, ◌+◌, ◌-◌, ◌*◌, ◌/◌, ◌<◌, ◌≤◌, Bool, true, false, cond, List, [], ◌∷◌, ◌++◌, length, drop, sym, refl, ap, ◌∙◌, sub-one, arith, length-take-le, length-drop, get_or-take, get_or-drop}
 use Rattle.fdt_tokens.specs.Devicetree.{Pair}
 use Rattle.std.specs.Prelude.{Option, None, Some, is_some, Err}
+use Rattle.fdt_tokens.specs.Bytes.{be32_at}
 use Rattle.fdt_tokens.specs.Lex.{is_done, lex_word, Reading, put, read}
 use Rattle.fdt_tokens.specs.declared.Lexer.{Lexer}
 use Rattle.fdt_tokens.specs.declared.Lexed.{Lexed}
@@ -14,7 +15,7 @@ use Rattle.fdt_nodes.specs.Scan.{judged, at_pair}
 use Rattle.fdt_nodes.specs.declared.DevicetreeError.TheVariants.{Invalid}
 use Rattle.fdt_nodes.proofs.Laws.{whole}
 use Rattle.fdt.specs.Passes.{lex_at, folded, pair_of, pairs_at, reg_pairs, pairs_met, pairs_from, left_in, handed}
-use Rattle.fdt.specs.Blob.{zero_entry, list_ends, block_of, strings_of, inside_of, pairs_left}
+use Rattle.fdt.specs.Blob.{zero_entry, list_ends, part, block_of, strings_of, inside_of, pairs_left}
 use Rattle.fdt_nodes.specs.declared.Nodes.{Nodes}
 use Rattle.fdt_nodes.specs.declared.Scan.{Scan}
 use Rattle.fdt.specs.declared.Walk.{Walk}
@@ -232,6 +233,11 @@ module _ (s : List ℕ) (c : Cursor) where
       → pairs_left s c ≡ pair_of t.base t.size ∷ pairs_left s (record { blocks = c.blocks; walk = t.after })
   unfolding pairs_left
   left_inside t h k e = rw (h, k) e
+
+-- a word of the bytes from a place on
+pub entry_word : (s : List ℕ) (at k : ℕ) → be32_at (part s at (length s)) k ≡ be32_at s (at + k)
+unfolding be32_at
+entry_word s at k = grind (arith, get_or-take, get_or-drop, length-take-le, length-drop)
 
 -- A loop looks for the end of the reservation list: of `n` entries from `i` on the answer is `v`
 pub record EntriesLeft (s : List ℕ) (i n : ℕ) (v : Bool) : Type 0 where

@@ -213,13 +213,15 @@ fn first_pair(blocks: Blocks) -> Cursor
     }
 }
 
-// Whether sixteen zero bytes stand at `at`.
-#[tactic(auto, unfolding(crate::specs::Blob::zero_entry))]
+// Whether sixteen zero bytes stand at `at`. (The words of one slice: of four places of `s` each would be tested against its end twice, and
+// a long list would take twice the instructions.)
+#[tactic(auto, using(crate::proofs::Laws::entry_word), unfolding(crate::specs::Blob::zero_entry))]
 fn zero_entry(s: &[u8], at: usize) -> bool
-    requires { at + 12 < 2 ^ 64 }
+    requires { at ≤ length s.now }
     ensures { result ≡ zero_entry s.now at }
 {
-    be32(s, at) == 0 && be32(s, at + 4) == 0 && be32(s, at + 8) == 0 && be32(s, at + 12) == 0
+    let rest = &s[at..];
+    be32(rest, 0) == 0 && be32(rest, 4) == 0 && be32(rest, 8) == 0 && be32(rest, 12) == 0
 }
 
 // Whether the reservation list from `from` on has its end before `total`.

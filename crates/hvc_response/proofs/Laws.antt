@@ -4,7 +4,7 @@ use mathlib.Core.Path.{◌≡◌, refl, ap, ◌∙◌}
 use mathlib.Core.List.{List, ◌++◌}
 use native.Mathlib.Numerals.{add-one}
 use lib.ListN.{length, take, drop, set, get_or, length-append, length-drop}
-use lib.Seq.{length-take-le, drop-cons, take-suc, append_snoc, set_at}
+use lib.Seq.{length-take-le, take_all, drop-cons, take-suc, append_snoc, set_at}
 use Rattle.exceptions.specs.declared.Core.{Core}
 use Rattle.exceptions.specs.Registers.{with_registers}
 use Rattle.exceptions.proofs.InWords.{InWords, in_registers}
@@ -61,6 +61,11 @@ unfolding signed_word
 natural (pos n) f t = (refl, omega arith)
 natural (negsuc n) f t = absurd (true≢false t)
 
+-- so that the library's cast gives the word of an error
+pub error_word : (z : ℤ) → SFits w32 z → of_z w64 z ≡ signed_word z
+error_word (pos n) f = ap (of_z w64) (natural (pos n) f (le-ltb n 0 (omega arith))).0
+error_word (negsuc n) f = omega (arith, (negative (negsuc n) f refl).word)
+
 -- the library's cast gives the word of a 32-bit number
 pub cast_word : (z : ℤ) → of_z w64 z ≡ signed_word z
 unfolding signed_word
@@ -95,6 +100,25 @@ module _ (core next : Core) (values : List ℕ) (i : ℕ) (inv : Written core va
         within = omega arith;
         so_far = rw (inv.so_far, n, m, next_register core.x values i h k);
       }
+
+-- so that a copy over the first registers writes them one after another
+copied : (core : Core) (values : List ℕ) (i : ℕ) → length values ≤ length core.x → i ≤ length values
+    → Written core values i (with_registers core (take i values ++ drop i core.x))
+unfolding with_first with_registers
+copied core values zero h k = record { within = omega arith; so_far = refl }
+copied core values (suc i) h k =
+    rw (← add-one i, ← next_register core.x values i (omega arith) (omega arith))
+    (write_next core _ values i (copied core values i h (omega arith)) (omega arith) (omega arith))
+
+-- a copy of all values
+pub copy_written : (core : Core) (values : List ℕ) → length values ≤ length core.x
+    → with_registers core (values ++ drop (length values) core.x) ≡ with_first core values
+copy_written core values h =
+    let n = length values in
+    rw (take_all n values (omega arith)) at ((copied core values n h (omega arith)).so_far)
+
+-- the same for a copy of as many as there are
+pub ruleset copies = (copy_written, take_all)
 
 -- a kind that is none of 0 to 4
 pub unknown_kind : (kind value : ℕ) (error : ℤ) → (kind ≡ 0 → ⊥) → (kind ≡ 1 → ⊥) → (kind ≡ 2 → ⊥) → (kind ≡ 3 → ⊥) → (kind ≡ 4 → ⊥)

@@ -57,7 +57,7 @@ impl HvcResult {
 }
 
 // Writes the results to x0 and the registers after it.
-#[tactic(auto, unfolding(crate::specs::Response::with_first, exceptions::specs::Registers::with_registers))]
+#[tactic(auto, using(crate::proofs::Laws::copies), unfolding(exceptions::specs::Registers::with_registers))]
 fn write_response_registers(core: Core, results: &[u64]) -> Core
     requires { length results.now ≤ 18 }
     ensures { result ≡ with_first core results.now }
@@ -68,7 +68,7 @@ fn write_response_registers(core: Core, results: &[u64]) -> Core
 }
 
 // The error, sign-extended.
-#[tactic(auto, using(crate::proofs::Laws::cast_word))]
+#[tactic(auto, using(crate::proofs::Laws::error_word))]
 pub fn error_to_u64(error: i32) -> u64
     ensures { result ≡ signed_word error }
 {

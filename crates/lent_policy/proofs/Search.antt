@@ -142,6 +142,15 @@ module _ (policy : List ℕ) where
   unfolding policy_at
   regions_length = length-held 16 (word_at policy region_count_at) (each (region_at policy) 0 16) (omega (arith, length-each (region_at policy) 0 16))
 
+-- The place that a loop over the regions held gives: below their number it is the library's, else there is none.
+module _ (policy : List ℕ) (ipa : ℕ) {k n : ℕ} (e : k ≡ first_index (has_address ipa) (regions_held (policy_at policy)))
+    (held : n ≡ min (word_at policy region_count_at) 16) where
+  pub place_found : k < n → position (has_address ipa) (regions_held (policy_at policy)) ≡ Some k
+  place_found h = sym (found_there (has_address ipa) (regions_held (policy_at policy)) (regions_length policy) e (omega (arith, held)))
+
+  pub place_missing : n ≤ k → position (has_address ipa) (regions_held (policy_at policy)) ≡ None
+  place_missing h = sym (found_none (has_address ipa) (regions_held (policy_at policy)) (regions_length policy) e (omega (arith, held)))
+
 -- A search for an address.
 module _ (policy : List ℕ) (ipa : Ipa) {k : ℕ} (found : position (has_address ipa.0) (regions_held (policy_at policy)) ≡ Some k) where
   pub place_below : k < 16

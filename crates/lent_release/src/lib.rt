@@ -29,20 +29,19 @@ fn is_stored(policy: &[u8; POLICY_SIZE], at: usize, base_ipa: u64, size: u64) ->
     (stored_base == base_ipa) & (stored_size == size)
 }
 
-// The place of the first record with this base and size, of those held in a list. The list's words begin at `first`.
-fn stored_place(
+// The place of the first record with this base and size, of those held in a list of records of `WORDS` words each, from word `FIRST` on.
+// (Constants: with a first word and a stride as arguments a search takes a quarter more instructions.)
+fn stored_place<const FIRST: usize, const WORDS: usize>(
     policy: &[u8; POLICY_SIZE],
-    first: usize,
-    record_words: usize,
     held: u64,
     base_ipa: u64,
     size: u64,
 ) -> Option<u64>
-    requires { (k : ℕ) → k < held → first + record_words * k < region_count_at }
-    ensures { result ≡ stored_place policy.now first record_words held base_ipa size }
+    requires { (k : ℕ) → k < held → FIRST + WORDS * k < region_count_at }
+    ensures { result ≡ stored_place policy.now FIRST WORDS held base_ipa size }
 {
     for place in 0..held {
-        let at = first + record_words * (place as usize);
+        let at = FIRST + WORDS * (place as usize);
         if is_stored(policy, at, base_ipa, size) {
             return Some(place);
         }
@@ -101,12 +100,12 @@ fn release_valid(policy: &mut [u8; POLICY_SIZE], base_ipa: u64, size: u64) -> u6
     ensures { Leaves (valid_release_call policy.old base_ipa size) result policy.new [] }
 {
     let ranges = lent_policy::allowed_held(policy);
-    if let Some(at) = stored_place(policy, RANGES, RANGE_WORDS, ranges, base_ipa, size) {
+    if let Some(at) = stored_place::<RANGES, RANGE_WORDS>(policy, ranges, base_ipa, size) {
         remove_range(policy, ranges, at);
         return 0;
     }
     let regions = lent_policy::regions_held(policy);
-    if let Some(at) = stored_place(policy, REGIONS, REGION_WORDS, regions, base_ipa, size) {
+    if let Some(at) = stored_place::<REGIONS, REGION_WORDS>(policy, regions, base_ipa, size) {
         remove_region(policy, regions, at);
         return 0;
     }

@@ -80,7 +80,7 @@ fn read_text(rt: &impl Print, run: Run, text: &[u8]) -> io::Result<Option<Run>> 
             };
             run = next;
         } else {
-            run.line = run.line.with_byte(*byte);
+            run.line.read_byte(*byte);
         }
     }
     Ok(Some(run))

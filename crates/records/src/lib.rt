@@ -3,7 +3,7 @@
 
 #![tactic(auto)]
 
-ghost use Rattle.std.specs.Prelude.{◌≡◌, ◌+◌, ◌<◌, ◌≤◌, length, take, drop, fold};
+ghost use Rattle.std.specs.Prelude.{◌≡◌, ◌+◌, ◌<◌, ◌≤◌, length, take, drop, fold, Some};
 ghost use Rattle.records.specs.Lines.{digit_of, empty_line, malformed, with_space, one_digit_longer, with_digit, with_byte};
 ghost use Rattle.records.specs.Records.{answer_place, field_count, record_of, call_of, no_record, first_difference, expected, outcome_of};
 
@@ -78,21 +78,65 @@ impl Line {
         }
     }
 
-    // The line with one byte more. One that has no place for a number stays as it is.
-    #[tactic(auto, unfolding(crate::specs::Lines::with_byte))]
+    // The line with one byte more.
     pub fn with_byte(self, byte: u8) -> Self
         ensures { result ≡ with_byte self byte }
+    {
+        let mut line = self;
+        line.read_byte(byte);
+        line
+    }
+
+    // The same in place, since a line can be very long. One that has no place for a number stays as it is.
+    #[tactic(auto, unfolding(crate::specs::Lines::with_byte))]
+    pub fn read_byte(&mut self, byte: u8)
+        ensures { self.new ≡ with_byte self.old byte }
     {
         match self.place {
             Some(place) if place < MAX_FIELDS => {
                 if byte == b' ' {
-                    with_space(self, place)
+                    self.read_space(place)
                 } else {
-                    with_digit(self, place, byte)
+                    self.read_digit(place, byte)
                 }
             }
-            _ => self,
+            _ => {}
         }
+    }
+
+    // The line is no list of numbers.
+    fn refuse(&mut self)
+        ensures { self.new ≡ malformed self.old }
+    {
+        self.place = None;
+        self.begun = false;
+    }
+
+    // The next number begins, unless the one before has no digit.
+    #[tactic(auto, unfolding(crate::specs::Lines::with_space))]
+    fn read_space(&mut self, place: usize)
+        requires { place < 39 }
+        ensures { self.new ≡ with_space self.old place }
+    {
+        if !self.begun {
+            return self.refuse();
+        }
+        self.place = Some(place + 1);
+        self.begun = false;
+    }
+
+    // The number that is read has one digit more, if that is a number of 64 bits.
+    #[tactic(auto, unfolding(crate::specs::Lines::with_digit))]
+    fn read_digit(&mut self, place: usize, byte: u8)
+        requires in_fields { place < 39 }
+        requires reads_it { self.old.place ≡ Some place }
+        ensures { self.new ≡ with_digit self.old place (digit_of byte) }
+    {
+        let Some(longer) = one_digit_longer(self.fields[place], byte) else {
+            return self.refuse();
+        };
+        self.fields[place] = longer;
+        self.begun = true;
     }
 
     // The record that the line holds, with nothing compared.
@@ -110,33 +154,6 @@ impl Line {
     }
 }
 
-// A line that is no list of numbers.
-fn malformed(line: Line) -> Line
-    ensures { result ≡ malformed line }
-{
-    Line {
-        place: None,
-        begun: false,
-        ..line
-    }
-}
-
-// The next number begins, unless the one before has no digit.
-#[tactic(auto, unfolding(crate::specs::Lines::with_space))]
-fn with_space(line: Line, place: usize) -> Line
-    requires { place < 39 }
-    ensures { result ≡ with_space line place }
-{
-    if !line.begun {
-        return malformed(line);
-    }
-    Line {
-        place: Some(place + 1),
-        begun: false,
-        ..line
-    }
-}
-
 // The value of a digit. (The library's `to_digit` takes upper-case letters too.)
 #[tactic(auto, unfolding(crate::specs::Lines::digit_of))]
 fn digit(byte: u8) -> Option<u64>
@@ -146,24 +163,6 @@ fn digit(byte: u8) -> Option<u64>
         b'0'..=b'9' => Some((byte - b'0') as u64),
         b'a'..=b'f' => Some((byte - b'a') as u64 + 10),
         _ => None,
-    }
-}
-
-// The number that is read has one digit more, if that is a number of 64 bits.
-#[tactic(auto, unfolding(crate::specs::Lines::with_digit))]
-fn with_digit(line: Line, place: usize, byte: u8) -> Line
-    requires { place < 39 }
-    ensures { result ≡ with_digit line place (digit_of byte) }
-{
-    let mut fields = line.fields;
-    let Some(longer) = one_digit_longer(fields[place], byte) else {
-        return malformed(line);
-    };
-    fields[place] = longer;
-    Line {
-        fields,
-        place: Some(place),
-        begun: true,
     }
 }
 
@@ -214,17 +213,25 @@ impl Record {
     }
 
     // The record with the next word of its answer compared.
-    #[tactic(auto, unfolding(crate::specs::Records::expected))]
     pub fn expect(self, word: u64) -> Self
         ensures { result ≡ expected self word }
     {
+        let mut record = self;
+        record.compare(word);
+        record
+    }
+
+    // The same in place: of several words none copies the record.
+    #[tactic(auto, unfolding(crate::specs::Records::expected))]
+    fn compare(&mut self, word: u64)
+        ensures { self.new ≡ expected self.old word }
+    {
         match self.next {
-            Some(at) if at < MAX_FIELDS => Record {
-                next: Some(at + 1),
-                difference: first_difference(self.difference, at, word, self.fields[at]),
-                ..self
-            },
-            _ => self.no_record(),
+            Some(at) if at < MAX_FIELDS => {
+                self.difference = first_difference(self.difference, at, word, self.fields[at]);
+                self.next = Some(at + 1);
+            }
+            _ => self.next = None,
         }
     }
 
@@ -232,7 +239,11 @@ impl Record {
     pub fn expect_all(self, words: &[u64]) -> Self
         ensures { result ≡ fold expected self words.now }
     {
-        words.iter().fold(self, |record, word| record.expect(*word))
+        let mut record = self;
+        for word in words {
+            record.compare(*word);
+        }
+        record
     }
 
     // A line that stands for no call: its answer never ends where the line does.

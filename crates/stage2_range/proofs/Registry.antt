@@ -1,5 +1,5 @@
 -- Laws on the searches of the regions and on the registry. Assumes nothing.
-use Prim.Native.Nat.{ℕ, ◌+◌, ◌-◌, ◌≤◌, ◌<◌}
+use Prim.Native.Nat.{ℕ, suc, ◌+◌, ◌-◌, ◌≤◌, ◌<◌}
 use mathlib.Core.Path.{◌≡◌, refl, sym, ◌∙◌, ap}
 use mathlib.Core.Bool.{Bool, true, false, cond}
 use mathlib.Core.List.{List, [], ◌∷◌, ◌++◌, Memᴰ}
@@ -7,8 +7,8 @@ use native.Mathlib.Omega.{arith}
 use native.Mathlib.Numerals.{add-one}
 use borrow.Author.Tests.{le-leb, lt-leb}
 use lib.Dec.{leb}
-use lib.ListN.{length, take, drop, get_or}
-use lib.Seq.{length-take-le, take_at, drop_at}
+use lib.ListN.{length, take, drop, get_or, drop_of_length-le}
+use lib.Seq.{length-take-le, take_at, drop_at, drop-cons}
 use Rattle.lists.specs.Lists.{held, first_index, insert_before, insert_at, Ascending}
 use Rattle.lists.proofs.Laws.{length-held, held_within, index_le, index_fits, first_none, none_first, length_insert, insert_at_lem, insert_place, insert_ascending, first_fit, first_member}
 use Rattle.memory_access.specs.declared.Ipa.{Ipa}
@@ -20,7 +20,7 @@ use Rattle.stage2_range.specs.Ranges.{shares_byte}
 use Rattle.stage2_range.specs.declared.Stage2ConfigError.TheVariants.{TooManyMemoryAccessHandlerRegions, MemoryAccessHandlerRangeOverlap}
 use Rattle.stage2_range.proofs.Ranges.{byte_above}
 use Rattle.std.proofs.lemmas.Option.{none-some}
-use Rattle.lists.proofs.Places.{found_at, found_nowhere, first_found, none_found}
+use Rattle.lists.proofs.Places.{found_at, found_nowhere}
 use Rattle.std.specs.Prelude.{position, unwrap_or, Err, None, Ok, Option, Some}
 
 -- a region shares a byte with others
@@ -30,6 +30,39 @@ sharing bytes r = shares_byte (region_bytes r) bytes
 -- a region's base is not below another's
 abbrev not_below : MemoryAccessRegion → MemoryAccessRegion → Bool
 not_below region r = leb region.base_ipa r.base_ipa
+
+-- the first of two searches that finds a region
+abbrev pub or_else : Option MemoryAccessHandlerMatch → Option MemoryAccessHandlerMatch → Option MemoryAccessHandlerMatch
+or_else None other = other
+or_else (Some m) other = Some m
+
+-- a search is that of the first region, or else that of the others
+pub find_first : (r : MemoryAccessRegion) (regions : List MemoryAccessRegion) (ipa : Ipa)
+    → find_region (r ∷ regions) ipa ≡ or_else (find_region (r ∷ []) ipa) (find_region regions ipa)
+unfolding find_region
+find_first r regions ipa = go _ (has_address ipa.0 r)
+  where
+    go : (m : MemoryAccessHandlerMatch) (b : Bool)
+        → cond b (Some m) (find_region regions ipa) ≡ or_else (cond b (Some m) None) (find_region regions ipa)
+    go m true = refl
+    go m false = refl
+
+-- one region is found where it has the address
+find_alone : (r : MemoryAccessRegion) (ipa : Ipa) (b : Bool) → has_address ipa.0 r ≡ b
+    → find_region (r ∷ []) ipa ≡ cond b (Some (record { region = r; offset = ipa.0 - r.base_ipa })) None
+unfolding find_region
+find_alone r ipa b e = rw e
+
+-- so that a search passes over the regions before the first that has the address
+find_passed : (regions : List MemoryAccessRegion) (ipa : Ipa)
+    → find_region regions ipa ≡ find_region (drop (first_index (has_address ipa.0) regions) regions) ipa
+find_passed [] ipa = refl
+find_passed (r ∷ regions) ipa = go (has_address ipa.0 r) refl (first_index (has_address ipa.0) regions) (find_passed regions ipa)
+  where
+    go : (b : Bool) → has_address ipa.0 r ≡ b → (i : ℕ) → find_region regions ipa ≡ find_region (drop i regions) ipa
+        → find_region (r ∷ regions) ipa ≡ find_region (drop (cond b 0 (suc i)) (r ∷ regions)) ipa
+    go true e i ih = refl
+    go false e i ih = find_first r regions ipa ∙ rw (find_alone r ipa false e) ih
 
 -- The search of the regions, by the place of the first that has the address.
 module _ (regions : List MemoryAccessRegion) (ipa : Ipa) (i : ℕ) (d : MemoryAccessRegion) (found : position (has_address ipa.0) regions ≡ Some i) where
@@ -43,12 +76,16 @@ module _ (regions : List MemoryAccessRegion) (ipa : Ipa) (i : ℕ) (d : MemoryAc
   found_base = byte_above (region_bytes (get_or regions i d)) ipa.0 found_fits
 
   pub find_here : find_region regions ipa ≡ Some (record { region = get_or regions i d; offset = ipa.0 - (get_or regions i d).base_ipa })
-  unfolding find_region
-  find_here = first_found (has_address ipa.0) (λ r. Some (record { region = r; offset = ipa.0 - r.base_ipa })) None regions i d found
+  find_here =
+      let f = found_at (has_address ipa.0) regions i found in
+      let r = get_or regions i d in
+      find_passed regions ipa
+      ∙ rw (f.1, drop-cons regions i d f.0) (find_first r (drop (suc i) regions) ipa ∙ rw (find_alone r ipa true found_fits))
 
 pub find_nothing : (regions : List MemoryAccessRegion) (ipa : Ipa) → position (has_address ipa.0) regions ≡ None → find_region regions ipa ≡ None
 unfolding find_region
-find_nothing regions ipa none = none_found (has_address ipa.0) (λ r. Some (record { region = r; offset = ipa.0 - r.base_ipa })) None regions none
+find_nothing regions ipa none =
+    find_passed regions ipa ∙ rw (drop_of_length-le regions (found_nowhere (has_address ipa.0) regions none))
 
 -- a search's place, or the length where there is none
 pub place_or_length : (fits : MemoryAccessRegion → Bool) (l : List MemoryAccessRegion) (found : Option ℕ) → found ≡ position fits l
@@ -147,22 +184,6 @@ module _ (regions : List MemoryAccessRegion) (n : ℕ) (region : MemoryAccessReg
 
 -- the registry after a refused call, by the test met
 pub ruleset register_refusals = (full-refused, overlap_refused)
-
--- the first of two searches that finds a region
-abbrev pub or_else : Option MemoryAccessHandlerMatch → Option MemoryAccessHandlerMatch → Option MemoryAccessHandlerMatch
-or_else None other = other
-or_else (Some m) other = Some m
-
--- a search is that of the first region, or else that of the others
-pub find_first : (r : MemoryAccessRegion) (regions : List MemoryAccessRegion) (ipa : Ipa)
-    → find_region (r ∷ regions) ipa ≡ or_else (find_region (r ∷ []) ipa) (find_region regions ipa)
-unfolding find_region
-find_first r regions ipa = go _ (has_address ipa.0 r)
-  where
-    go : (m : MemoryAccessHandlerMatch) (b : Bool)
-        → cond b (Some m) (find_region regions ipa) ≡ or_else (cond b (Some m) None) (find_region regions ipa)
-    go m true = refl
-    go m false = refl
 
 -- a region that is found is one of those searched, it has the address, and the offset is counted from its base
 pub find-held : (regions : List MemoryAccessRegion) (ipa : Ipa) (m : MemoryAccessHandlerMatch) → find_region regions ipa ≡ Some m

@@ -64,9 +64,13 @@ range_bytes r = record { base_ipa = r.base_ipa; end_ipa = r.end_ipa }
 abbrev pub range_words : Stage2Range → List ℕ
 range_words r = r.base_ipa ∷ r.size ∷ r.end_ipa ∷ r.attributes ∷ []
 
+-- a record has this "stored base and size": of records of any kind, of which each has its bytes and its size
+abbrev pub is_record : {A : Type 0} → (A → PageRange) → (A → ℕ) → ℕ → ℕ → A → Bool
+is_record bytes_of size_of base size x = eqb (bytes_of x).base_ipa base && eqb (size_of x) size
+
 -- it is the one to release: "by its stored base and size"
 abbrev pub is_range : ℕ → ℕ → Stage2Range → Bool
-is_range base size r = eqb r.base_ipa base && eqb r.size size
+is_range base size r = is_record range_bytes (λ x. x.size) base size r
 
 -- "shares a byte with" one of some records, of which each has its bytes
 unfoldable pub overlaps : {A : Type 0} → (A → PageRange) → List A → PageRange → Bool

@@ -1,5 +1,5 @@
 -- The handled regions, held in an array and a count (document 01, "Range and region"). Records handed in may hold anything. Assumes nothing.
-use Rattle.std.specs.Prelude.{ℕ, ◌+◌, ◌-◌, Bool, ◌&&◌, List, [], ◌∷◌, ◌++◌, leb, eqb, take, drop, Err, None, Ok, Option, Result, Some, ⊤}
+use Rattle.std.specs.Prelude.{ℕ, ◌+◌, ◌-◌, Bool, List, [], ◌∷◌, ◌++◌, leb, take, drop, Err, None, Ok, Option, Result, Some, ⊤}
 use Rattle.lists.specs.Lists.{held, first_of, insert_before}
 use Rattle.lists.specs.Refusals.{Case, case}
 use Rattle.memory_access.specs.declared.Ipa.{Ipa}
@@ -8,7 +8,7 @@ use Rattle.stage2_range.specs.declared.Stage2ConfigError.TheVariants.{TooManyMem
 use Rattle.stage2_range.specs.declared.PageRange.{PageRange}
 use Rattle.stage2_range.specs.declared.MemoryAccessRegion.{MemoryAccessRegion}
 use Rattle.stage2_range.specs.declared.Registered.{Registered}
-use Rattle.stage2_range.specs.Ranges.{answer_of, page_range, has_byte, overlaps}
+use Rattle.stage2_range.specs.Ranges.{answer_of, page_range, has_byte, is_record, overlaps}
 use Rattle.stage2_range.specs.Handlers.{handler_of, handler_number}
 use Rattle.stage2_range.specs.declared.MemoryAccessHandlerMatch.{MemoryAccessHandlerMatch}
 
@@ -32,7 +32,7 @@ region_words r =
 
 -- it is the one to release: "by its stored base and size"
 abbrev pub is_region : ℕ → ℕ → MemoryAccessRegion → Bool
-is_region base size r = eqb r.base_ipa base && eqb r.size size
+is_region base size r = is_record region_bytes (λ x. x.size) base size r
 
 -- "base ≤ IPA < end": a region has an address
 abbrev pub has_address : ℕ → MemoryAccessRegion → Bool

@@ -2,9 +2,9 @@
 
 #![tactic(auto)]
 
-ghost use Rattle.std.specs.Prelude.{◌≡◌, ℕ, ◌&&◌, eqb, leb, ◌≤◌, ◌<◌, length, position};
+ghost use Rattle.std.specs.Prelude.{◌≡◌, ℕ, leb, ◌≤◌, ◌<◌, length, position};
 ghost use Rattle.lists.specs.Lists.{held, first_index, insert_at};
-ghost use Rattle.stage2_range.specs.Ranges.{overlaps, validate_range, error_number, page_range, has_byte, shares_byte, range_of, range_bytes, range_words, align_down, align_up, aligned_number, aligned_value};
+ghost use Rattle.stage2_range.specs.Ranges.{overlaps, validate_range, error_number, page_range, has_byte, shares_byte, range_of, range_bytes, range_words, is_record, align_down, align_up, aligned_number, aligned_value};
 ghost use Rattle.stage2_range.specs.Handlers.{handler_of, handler_number, is_handler};
 ghost use Rattle.stage2_range.specs.Registry.{region_of, region_bytes, region_words, has_address, find_region, register_region};
 
@@ -416,7 +416,7 @@ pub fn overlaps<T: PolicyRecord>(records: &[T], bytes: PageRange) -> bool
 
 // The place of the first record with this base and size.
 pub fn position<T: PolicyRecord>(records: &[T], base_ipa: u64, size: u64) -> Option<usize>
-    ensures { result ≡ position (λ r. eqb (T.bytes_of r).base_ipa base_ipa && eqb (T.size_of r) size) records.now }
+    ensures { result ≡ position (is_record T.bytes_of T.size_of base_ipa size) records.now }
 {
     records.iter().position(|held| (held.bytes().base_ipa == base_ipa) & (held.size() == size))
 }

@@ -1,8 +1,8 @@
 use native.Mathlib.Omega.{arith}
-use Rattle.lists.proofs.Laws.{index_here, index_later, index_done}
+use Rattle.lists.proofs.Laws.{index_here, index_later}
 use Rattle.stage2_range.proofs.Ranges.{has_told}
 use Rattle.lent_policy.specs.Layout.{region_at}
-use Rattle.lent_policy.proofs.Search.{region_read, index_begins, found_there, found_none, regions_length}
+use Rattle.lent_policy.proofs.Search.{region_read, index_begins}
 use Rattle.lent_policy.proofs.find_place.Goals as goal
 
 pub loop-place-init : goal.loop-place-init
@@ -12,8 +12,8 @@ pub returns-then-has_byte : goal.returns-then-has_byte
 returns-then-has_byte c =
     let b = c.args.policy.now in
     let l = c.loop-place in
-    found_there _ _ (regions_length b) (index_here l.invariant (omega arith) (omega arith) (region_at b 0)
-    (has_told _ c.has_byte.ensures (region_read b l.place (omega arith) (region_at b 0)) c.if-has_byte.true)) (omega arith)
+    index_here l.invariant (omega arith) (omega arith) (region_at b 0)
+    (has_told _ c.has_byte.ensures (region_read b l.place (omega arith) (region_at b 0)) c.if-has_byte.true)
 
 pub loop-place-preserved : goal.loop-place-preserved
 loop-place-preserved c =
@@ -21,9 +21,3 @@ loop-place-preserved c =
     let l = c.loop-place in
     index_later l.invariant (omega arith) (omega arith) (region_at b 0)
     (has_told _ c.has_byte.ensures (region_read b l.place (omega arith) (region_at b 0)) c.if-has_byte.false)
-
-pub returns : goal.returns
-returns c =
-    let b = c.args.policy.now in
-    let l = c.loop-place in
-    found_none _ _ (regions_length b) (index_done l.invariant (omega arith)) (omega arith)

@@ -1,5 +1,5 @@
 -- The loop's invariant: the place is `place` places further than the first that fits among the regions not yet passed.
-use Prim.Native.Nat.{min}
+use Prim.Native.Nat.{◌-◌, min}
 use Rattle.lists.specs.Lists.{first_index}
 use Rattle.lists.proofs.Laws.{IndexLeft}
 use Rattle.stage2_range.specs.Registry.{has_address}
@@ -12,3 +12,6 @@ abbrev pub invariant-loop-place : goal.invariant-loop-place
 invariant-loop-place l =
     IndexLeft (has_address l.ipa) (each (region_at l.policy) 0 16) (min (word_at l.policy region_count_at) 16) l.place
     (first_index (has_address l.ipa) (regions_held (policy_at l.policy)))
+
+abbrev pub decreases-loop-place : goal.decreases-loop-place
+decreases-loop-place l = l.held - l.place

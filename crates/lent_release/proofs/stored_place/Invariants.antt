@@ -7,6 +7,6 @@ use Rattle.lent_release.specs.Calls.{is_stored}
 use Rattle.lent_release.proofs.stored_place.Given as goal
 
 abbrev pub invariant-loop-place : goal.invariant-loop-place
-invariant-loop-place l =
-    IndexLeft (λ at. is_stored l.policy at l.base_ipa l.size) (each (λ k. l.first + l.record_words * k) 0 l.held) l.held l.place
-    (first_index (λ at. is_stored l.policy at l.base_ipa l.size) (each (λ k. l.first + l.record_words * k) 0 l.held))
+invariant-loop-place g l =
+    IndexLeft (λ at. is_stored l.policy at l.base_ipa l.size) (each (λ k. g.row.FIRST + g.row.WORDS * k) 0 l.held) l.held l.place
+    (first_index (λ at. is_stored l.policy at l.base_ipa l.size) (each (λ k. g.row.FIRST + g.row.WORDS * k) 0 l.held))
